@@ -1,0 +1,5 @@
+pub mod Tests
+pub mod Least
+pub mod Seek
+pub mod Words
+pub mod Search
