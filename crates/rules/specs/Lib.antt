@@ -3,3 +3,10 @@ pub mod Least
 pub mod Seek
 pub mod Words
 pub mod Search
+pub mod Machine
+pub mod Table
+pub mod Rounds
+pub mod Difference
+pub mod Numbering
+pub mod Answer
+pub mod Sheets

@@ -1,0 +1,129 @@
+-- Document 01, 'Table, rounds and stop' and 'Numbers to build for': the learner's answer, its counts, and the contents of both areas.
+use mathlib.Core.Bool.{true, false, _&&_}
+use mathlib.Core.Option.{Option, none, some}
+use mathlib.Core.List.{List, [], _∷_, _++_, map}
+use Prim.Native.Nat.{ℕ, zero, suc, _+_, _*_, _/_, _%_}
+use lib.ListN.{length, getD, take, drop, replicate}
+use lib.Dec.{ltb, leb}
+use Rattle.rules.specs.Words.{Word}
+use Rattle.rules.specs.Machine.{Machine, lent, ask}
+use Rattle.rules.specs.Table.{from, oneLetter, row, conjecture}
+use Rattle.rules.specs.Rounds.{Stop, learned, cellCount}
+use Rattle.rules.specs.Difference.{difference}
+use Rattle.rules.specs.Numbering.{renumbered, reachingWords, stateMap}
+use Rattle.rules.specs.Sheets.{Proof, proofBytes, wordsOf, wordBytes, CX}
+use Rattle.rules.specs.Answer.{Answer, refused, gives, demand, within, _>>_}
+use Rattle.machine.specs.Lent.{link, lentCheck}
+
+-- what Done and Open give
+pub record Counts : Type 0 where
+  pub states : ℕ
+  pub rounds : ℕ
+  pub cells : ℕ
+  pub bytes : ℕ
+
+pub data Learnt : Type 0 where
+  done : Counts → Learnt
+  unfinished : Counts → Learnt
+
+-- the answer, and both areas after it
+pub record Left : Type 0 where
+  pub answer : Answer Learnt
+  pub table : List ℕ
+  pub sheet : List ℕ
+
+-- rule 5: the least word on which machine and conjecture differ
+unfoldable pub counterexample : ℕ → Machine → List Word → List Word → Option Word
+unfolding difference conjecture ask
+counterexample k M E S = difference M (conjecture (ask M) E S) k 0 0
+
+-- rules 1 to 6, R rounds at most: no closing appends more words than the machine has states
+unfoldable pub stopped : ℕ → Machine → ℕ → Stop
+unfolding learned counterexample oneLetter ask
+stopped k M R = learned (ask M) k 1 (M .states) (counterexample k M) R (oneLetter k)
+
+-- the finished proof sheet: the model numbered by least words, the columns in table order, 255 for unreachable states
+unfoldable pub finished : ℕ → Machine → Stop → Proof
+unfolding conjecture ask renumbered reachingWords stateMap wordsOf
+finished k M x =
+    let C = conjecture (ask M) (x .E) (x .S) in
+    record {
+      m = renumbered k C .states;
+      k = k;
+      n = M .states;
+      c = length (x .E);
+      model = wordsOf 256 k (renumbered k C);
+      reaching = reachingWords k C;
+      columns = x .E;
+      stateMap = stateMap k M C;
+    }
+
+-- ---- the areas
+abbrev pub tableWidth : ℕ
+tableWidth = 59
+
+abbrev pub tableSize : ℕ
+tableSize = 34043
+
+abbrev pub sheetSize : ℕ
+sheetSize = 9368
+
+-- the byte at place i of the table area: cell (row, column) lies at row·59 + column, and the rest is zero
+unfoldable pub tableByte : ℕ → Machine → Stop → ℕ → ℕ
+unfolding row ask
+tableByte k M x i =
+    elim (ltb (i / tableWidth) (1 + length (x .S) * k) && ltb (i % tableWidth) (length (x .E))) [
+      | true ↦ ask M (row k (x .S) (i / tableWidth) ++ getD (x .E) (i % tableWidth) [])
+      | false ↦ 0
+    ]
+
+unfoldable pub tableBytes : ℕ → Machine → Stop → List ℕ
+unfolding tableByte from
+tableBytes k M x = map (tableByte k M x) (from 0 tableSize)
+
+-- an area with these bytes at its start, and the bytes beyond as they were
+unfoldable pub over : List ℕ → List ℕ → List ℕ
+over bytes area = bytes ++ drop (length bytes) area
+
+unfoldable pub zeros : ℕ → List ℕ
+zeros n = replicate n 0
+
+-- ---- the operation
+-- the refusals that come before learning: 7, machine, 8, 9
+unfoldable pub learnCheck : ℕ → ℕ → List ℕ → ℕ → ℕ → List ℕ → List ℕ → Answer (Unit {0})
+unfolding lentCheck
+learnCheck n k words L R table sheet = do
+  demand (within 1 48 L && leb R 47) 7
+  lentCheck n k words
+  demand (leb tableSize (length table)) 8
+  demand (leb sheetSize (length sheet)) 9
+
+unfoldable pub counts : ℕ → Stop → List ℕ → Counts
+unfolding cellCount
+counts k x bytes = record { states = length (x .S); rounds = x .past; cells = cellCount k x; bytes = length bytes }
+
+-- where the rounds stop: 10 where S has more than L words, and else Done or Open
+unfoldable pub stopLeaves : ℕ → Machine → ℕ → Stop → List ℕ → List ℕ → Left
+unfolding over zeros tableBytes proofBytes finished wordBytes counts
+stopLeaves k M L x table sheet =
+    elim (leb (length (x .S)) L) [
+      | false ↦ record { answer = refused 10; table = over (zeros tableSize) table; sheet = sheet }
+      | true ↦
+          elim (x .left) [
+            | none ↦
+                let bytes = proofBytes (finished k M x) in
+                record { answer = gives (done (counts k x bytes)); table = over (tableBytes k M x) table; sheet = over bytes sheet }
+            | some w ↦
+                let bytes = wordBytes CX w in
+                record { answer = gives (unfinished (counts k x bytes)); table = over (tableBytes k M x) table; sheet = over bytes sheet }
+          ]
+    ]
+
+unfoldable pub learnLeaves : Answer (Unit {0}) → ℕ → ℕ → List ℕ → ℕ → ℕ → List ℕ → List ℕ → Left
+unfolding stopLeaves stopped lent
+learnLeaves (refused number) n k words L R table sheet = record { answer = refused number; table = table; sheet = sheet }
+learnLeaves (gives u) n k words L R table sheet = stopLeaves k (link n k words) L (stopped k (link n k words) R) table sheet
+
+unfoldable pub learn : ℕ → ℕ → List ℕ → ℕ → ℕ → List ℕ → List ℕ → Left
+unfolding learnCheck learnLeaves
+learn n k words L R table sheet = learnLeaves (learnCheck n k words L R table sheet) n k words L R table sheet

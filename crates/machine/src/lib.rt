@@ -1,0 +1,1 @@
+// The machine: lent words and questions.

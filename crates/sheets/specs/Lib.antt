@@ -1,0 +1,5 @@
+pub mod Reading
+pub mod Machines
+pub mod Proofs
+pub mod Checker
+pub mod Cases
