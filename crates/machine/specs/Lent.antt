@@ -1,8 +1,9 @@
 -- Document 01, 'The machine' and 'Refusal numbers': lent words and a question, with their refusals in order.
+use mathlib.Core.Path.{_≡_}
 use mathlib.Core.Bool.{Bool, true, false, _&&_}
 use mathlib.Core.List.{List, [], _∷_}
-use Prim.Native.Nat.{ℕ, _*_, _/_}
-use lib.ListN.{length}
+use Prim.Native.Nat.{ℕ, _+_, _*_, _/_, _≤_, _<_}
+use lib.ListN.{length, getD}
 use lib.Dec.{ltb, leb}
 use Rattle.rules.specs.Words.{Word}
 use Rattle.rules.specs.Machine.{Machine, lent, ask}
@@ -36,6 +37,15 @@ lentCheck n k words = do
 -- the machine that words lend: outputs are bytes
 abbrev pub link : ℕ → ℕ → List ℕ → Machine
 link n k words = lent 256 n k words
+
+-- what lent words have that are not refused
+pub record Sound (n k : ℕ) (words : List ℕ) : Type 0 where
+  pub n-low : 1 ≤ n
+  pub n-high : n ≤ 48
+  pub k-low : 1 ≤ k
+  pub k-high : k ≤ 12
+  pub long : length words ≡ n * k
+  pub next : (s a : ℕ) → s < n → a < k → getD words (s * k + a) 0 / 256 < n
 
 -- question: machine, then 6 for the empty word or a letter not below k; its answer is the last output
 unfoldable pub question : ℕ → ℕ → List ℕ → Word → Answer ℕ
