@@ -3,7 +3,7 @@ use mathlib.Core.Bool.{true, false, _&&_}
 use mathlib.Core.Option.{Option, none, some}
 use mathlib.Core.List.{List, [], _∷_, _++_, map}
 use Prim.Native.Nat.{ℕ, zero, suc, _+_, _*_, _/_, _%_}
-use lib.ListN.{length, getD, take, drop, replicate}
+use lib.ListN.{length, getD}
 use lib.Dec.{ltb, leb}
 use Rattle.rules.specs.Words.{Word}
 use Rattle.rules.specs.Machine.{Machine, lent, ask}
@@ -12,6 +12,7 @@ use Rattle.rules.specs.Rounds.{Stop, learned, cellCount}
 use Rattle.rules.specs.Difference.{difference}
 use Rattle.rules.specs.Numbering.{renumbered, reachingWords, stateMap}
 use Rattle.rules.specs.Sheets.{Proof, proofBytes, wordsOf, wordBytes, CX}
+use Rattle.rules.specs.Areas.{over, zeros}
 use Rattle.rules.specs.Answer.{Answer, refused, gives, demand, within, _>>_}
 use Rattle.machine.specs.Lent.{link, lentCheck}
 
@@ -80,13 +81,6 @@ tableByte k M x i =
 unfoldable pub tableBytes : ℕ → Machine → Stop → List ℕ
 unfolding tableByte from
 tableBytes k M x = map (tableByte k M x) (from 0 tableSize)
-
--- an area with these bytes at its start, and the bytes beyond as they were
-unfoldable pub over : List ℕ → List ℕ → List ℕ
-over bytes area = bytes ++ drop (length bytes) area
-
-unfoldable pub zeros : ℕ → List ℕ
-zeros n = replicate n 0
 
 -- ---- the operation
 -- the refusals that come before learning: 7, machine, 8, 9

@@ -112,13 +112,13 @@ pub fn last_output(words: &[u16], n: usize, k: usize, w: &[u8]) -> u8
 {
     let mut state: usize = 0;
     let mut output: u8 = 0;
-    let mut i: usize = 0;
-    while i < w.len() {
-        let at = state * k + wide(w[i]);
-        let word = words[at];
+    let mut at: usize = 0;
+    while at < w.len() {
+        let place = state * k + wide(w[at]);
+        let word = words[place];
         output = output_of(word);
         state = next_of(word);
-        i += 1;
+        at += 1;
     }
     output
 }

@@ -10,3 +10,4 @@ pub mod Difference
 pub mod Numbering
 pub mod Answer
 pub mod Sheets
+pub mod Areas

@@ -6,9 +6,10 @@ use Prim.Native.Nat.{ℕ, zero, suc, _+_, _*_}
 use lib.ListN.{length, take, drop, replicate}
 use lib.Dec.{eqb}
 use Rattle.rules.specs.Tests.{eqs}
+use Rattle.rules.specs.Areas.{zeros}
 use Rattle.rules.specs.Answer.{Answer, refused, gives}
 use Rattle.learning.specs.Learner as learner
-use Rattle.learning.specs.Learner.{learn, Learnt, done, unfinished, tableSize, sheetSize, zeros}
+use Rattle.learning.specs.Learner.{learn, Learnt, done, unfinished, tableSize, sheetSize}
 use Rattle.sheets.specs.Reading.{Parsed, bad, good}
 use Rattle.sheets.specs.Machines.{Sheet, machineSheet}
 use Rattle.sheets.specs.Proofs.{proofSheet}

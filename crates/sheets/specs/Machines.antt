@@ -4,10 +4,10 @@ use mathlib.Core.List.{List, [], _∷_, _++_}
 use Prim.Native.Nat.{ℕ, _+_, _*_}
 use lib.ListN.{length, take, drop}
 use lib.Dec.{leb}
+use Rattle.rules.specs.Areas.{over}
 use Rattle.rules.specs.Answer.{Answer, refused, gives, within}
 use Rattle.rules.specs.Sheets.{MH, machineBytes}
 use Rattle.machine.specs.Lent.{lentCheck}
-use Rattle.learning.specs.Learner.{over}
 use Rattle.sheets.specs.Reading.{Parsed, bad, good, Reader, pure, _>>=_, _>>_, demand, present, byte, atEnd, mark, rows}
 
 pub record Sheet : Type 0 where

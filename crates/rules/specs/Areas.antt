@@ -1,0 +1,59 @@
+-- Lent areas: bytes (or words) that are written at a place, and the rest as it was.
+use mathlib.Core.Path.{_≡_, refl, sym, ap, ap₂, _∙_}
+use mathlib.Core.List.{List, [], _∷_, _++_, append-assoc}
+use Prim.Native.Nat.{ℕ, suc, _+_, _≤_, _<_}
+use native.Mathlib.Omega.{arith}
+use lib.ListN.{length, take, drop, set, replicate, length-append, length-take, length-drop, take-append-drop}
+use lib.Seq.{take-at, drop-drop, set-split, drop-append-add}
+
+-- at the start of an area
+unfoldable pub over : List ℕ → List ℕ → List ℕ
+over new area = new ++ drop (length new) area
+
+-- from a place on
+unfoldable pub put : ℕ → List ℕ → List ℕ → List ℕ
+put at new area = take at area ++ (new ++ drop (at + length new) area)
+
+unfoldable pub zeros : ℕ → List ℕ
+zeros n = replicate n 0
+
+pub put-start : (new area : List ℕ) → put 0 new area ≡ over new area
+unfolding put over
+put-start new area = let z : 0 + length new ≡ length new = omega arith in rw z
+
+pub put-none : (at : ℕ) (area : List ℕ) → put at [] area ≡ area
+unfolding put
+put-none at area = let z : at + 0 ≡ at = omega arith in rw z (take-append-drop at area)
+
+pub put-length : (at : ℕ) (new area : List ℕ) → at + length new ≤ length area → length (put at new area) ≡ length area
+unfolding put
+put-length at new area h = simp (length-append, length-take, length-drop) (omega arith)
+
+-- what is written next to it joins it
+pub put-put : (at : ℕ) (x y area : List ℕ) → at + (length x + length y) ≤ length area → put (at + length x) y (put at x area) ≡ put at (x ++ y) area
+unfolding put
+put-put at x y area h =
+    let front : List ℕ = take at area ++ x in
+    let rest : List ℕ = drop (at + length x) area in
+    let size : length (take at area ++ x) ≡ at + length x = simp (length-append, length-take) (omega arith) in
+    let whole : take at area ++ (x ++ rest) ≡ front ++ rest = sym (append-assoc (take at area) x rest) in
+    let end : at + length x + length y ≡ at + length (x ++ y) = simp length-append (omega arith) in
+    let one : take (at + length x) (front ++ rest) ≡ front = take-at front rest (at + length x) size in
+    let two : drop (at + length x + length y) (front ++ rest) ≡ drop (at + length (x ++ y)) area =
+    ap (λ (n : ℕ). drop (n + length y) (front ++ rest)) (sym size) ∙ drop-append-add front rest (length y) ∙ drop-drop (length y) (at + length x) area
+    ∙ ap (λ (n : ℕ). drop n area) end in
+    ap (λ (l : List ℕ). take (at + length x) l ++ (y ++ drop (at + length x + length y) l)) whole
+    ∙ ap₂ (λ (l m : List ℕ). l ++ (y ++ m)) one two
+    ∙ append-assoc (take at area) x (y ++ drop (at + length (x ++ y)) area)
+    ∙ ap (λ (l : List ℕ). take at area ++ l) (sym (append-assoc x y (drop (at + length (x ++ y)) area)))
+
+-- a store is a put of one
+pub put-one : (area : List ℕ) (i v : ℕ) → i < length area → set area i v ≡ put i (v ∷ []) area
+unfolding put
+put-one area i v h = let n : suc i ≡ i + 1 = omega arith in set-split area i v h ∙ ap (λ (j : ℕ). take i area ++ (v ∷ drop j area)) n
+
+-- one more is stored at its end
+pub put-store : (at : ℕ) (x : List ℕ) (v : ℕ) (area : List ℕ) → at + length x < length area → set (put at x area) (at + length x) v ≡ put at (x ++ (v ∷ [])) area
+put-store at x v area h =
+    let size : length (put at x area) ≡ length area = put-length at x area (omega arith) in
+    put-one (put at x area) (at + length x) v (omega arith) ∙ put-put at x (v ∷ []) area (omega arith)
