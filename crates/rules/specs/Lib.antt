@@ -11,3 +11,7 @@ pub mod Numbering
 pub mod Answer
 pub mod Sheets
 pub mod Areas
+pub mod Closing
+pub mod MachineLaws
+pub mod Round
+pub mod Stages
