@@ -15,3 +15,5 @@ pub mod Closing
 pub mod MachineLaws
 pub mod Round
 pub mod Stages
+pub mod Telling
+pub mod Lengths

@@ -1,0 +1,142 @@
+-- How long a counterexample gets: two machines side by side are one machine of n + m states, so what tells s of the first from t of the
+-- second is told by a word of fewer than n + m letters.
+use mathlib.Core.Path.{_≡_, refl, sym, ap, ap₂, _∙_, subst}
+use mathlib.Core.Logic.{_⊎_, inl, inr, _≢_}
+use mathlib.Core.Bool.{Bool, true, false}
+use mathlib.Core.List.{List, [], _∷_, _++_, map, head-eq-of-cons-eq, tail-eq-of-cons-eq}
+use Prim.Native.Nat.{ℕ, zero, suc, pred, _+_, _-_, _≤_, _<_}
+use native.Mathlib.Nat.{eq-or-lt-of-le}
+use native.Mathlib.Decide.{ℕ-discrete, decLe}
+use native.Mathlib.Omega.{arith}
+use lib.ListN.{length, length-append}
+use lib.Dec.{ltb}
+use Rattle.rules.specs.Least.{Least, least, dec-not, stable}
+use Rattle.rules.specs.Tests.{lt-yes, lt-no, ltb-yes, ltb-no}
+use Rattle.rules.specs.Words.{Word, Below, code, before-code, below-append}
+use Rattle.rules.specs.Search.{walk}
+use Rattle.rules.specs.Machine.{Machine, Complete}
+use Rattle.rules.specs.MachineLaws.{walk-low}
+use Rattle.rules.specs.Table.{from}
+use Rattle.rules.specs.Telling.{Telling, bound}
+
+abbrev either : {A : Type 0} → Bool → A → A → A
+either true x y = x
+either false x y = y
+
+-- ---- functions over the letters as lists
+pub map-ext : (f g : ℕ → ℕ) (i n : ℕ) → ((b : ℕ) → b < i + n → f b ≡ g b) → map f (from i n) ≡ map g (from i n)
+unfolding from
+map-ext f g i zero h = refl
+map-ext f g i (suc n) h = ap₂ {C = List ℕ} _∷_ (h i (omega arith)) (map-ext f g (suc i) n (λ b l. h b (omega arith)))
+
+map-at : (f g : ℕ → ℕ) (i n : ℕ) → map f (from i n) ≡ map g (from i n) → (b : ℕ) → i ≤ b → b < i + n → f b ≡ g b
+unfolding from
+map-at f g i zero e b l u = absurd (never l u)
+  where
+    never : i ≤ b → b < i + 0 → ⊥
+    never l u = omega arith
+map-at f g i (suc n) e b l u = go (eq-or-lt-of-le l) (map-at f g (suc i) n (tail-eq-of-cons-eq e) b)
+  where
+    go : (i ≡ b) ⊎ (i < b) → (suc i ≤ b → b < suc i + n → f b ≡ g b) → f b ≡ g b
+    go (inl q) ih = subst (λ (z : ℕ). f z ≡ g z) q (head-eq-of-cons-eq e)
+    go (inr m) ih = ih m (omega arith)
+
+-- a difference that the letter b shows after v, in fewer than l letters
+pub record Shown (k l : ℕ) (M N : Machine) (s t : ℕ) : Type 0 where
+  pub v : Word
+  pub b : ℕ
+  pub letters : Below k v
+  pub low : b < k
+  pub short : suc (length v) < l
+  pub differ : M .out (walk (M .next) s v) b ≢ N .out (walk (N .next) t v) b
+
+module _ (k : ℕ) (M N : Machine) (whole : Complete k M) (whole′ : Complete k N) where
+  n : ℕ
+  n = M .states
+
+  -- the states of M, then those of N
+  step : ℕ → ℕ → ℕ
+  unfolding n
+  step x a = either (ltb x n) (M .next x a) (n + N .next (x - n) a)
+
+  shows : ℕ → List ℕ
+  unfolding n from
+  shows x = either (ltb x n) (map (M .out x) (from 0 k)) (map (N .out (x - n)) (from 0 k))
+
+  back : (x : ℕ) → n + x - n ≡ x
+  back x = omega arith
+
+  walk-first : (s : ℕ) (v : Word) → s < n → Below k v → walk step s v ≡ walk (M .next) s v
+  unfolding step n
+  walk-first s [] h b = refl
+  walk-first s (a ∷ v) h b = rw (lt-yes s n h) (walk-first (M .next s a) v (whole .1 s a h (b .0)) (b .1))
+
+  walk-second : (t : ℕ) (v : Word) → walk step (n + t) v ≡ n + walk (N .next) t v
+  unfolding step
+  walk-second t [] = refl
+  walk-second t (a ∷ v) = rw (lt-no (n + t) n (omega arith), back t) (walk-second (N .next t a) v)
+
+  first-shows : (s : ℕ) (v : Word) → s < n → Below k v → shows (walk step s v) ≡ map (M .out (walk (M .next) s v)) (from 0 k)
+  unfolding shows n
+  first-shows s v h b =
+      rw (walk-first s v h b, lt-yes (walk (M .next) s v) n (walk-low n k (M .next) (whole .1) s v h b))
+
+  second-shows : (t : ℕ) (v : Word) → shows (walk step (n + t) v) ≡ map (N .out (walk (N .next) t v)) (from 0 k)
+  unfolding shows
+  second-shows t v = rw (walk-second t v, lt-no (n + walk (N .next) t v) n (omega arith), back (walk (N .next) t v))
+
+  stays : (x a : ℕ) → x ≤ pred (n + N .states) → a < k → step x a ≤ pred (n + N .states)
+  unfolding step n
+  stays x a hx ha = go (ltb x n) refl
+    where
+      go : (b : Bool) → ltb x n ≡ b → either (ltb x n) (M .next x a) (n + N .next (x - n) a) ≤ pred (n + N .states)
+      go true e = let h = whole .1 x a (ltb-yes x n e) ha in let p = whole′ .0 in rw e (omega arith)
+      go false e =
+          let g : n ≤ x = ltb-no x n e in
+          let p = whole′ .0 in
+          let h = whole′ .1 (x - n) a (omega arith) ha in
+          rw e (omega arith)
+
+  module _ (s t : ℕ) (hs : s < M .states) (ht : t < N .states) where
+    -- if some word shows a difference, one of fewer than n + m letters does
+    pub shorter : (v : Word) (b : ℕ) → Below k v → b < k → M .out (walk (M .next) s v) b ≢ N .out (walk (N .next) t v) b
+        → Shown k (M .states + N .states) M N s t
+    unfolding n
+    shorter v b bv hb d =
+        let p = whole′ .0 in
+        let x = bound k step shows (pred (n + N .states)) stays s (n + t) (omega arith) (omega arith) v bv apart in
+        made (x .word) (x .letters) (x .short) (x .differ)
+      where
+        apart : shows (walk step s v) ≢ shows (walk step (n + t) v)
+        apart e =
+            d (map-at (M .out (walk (M .next) s v)) (N .out (walk (N .next) t v)) 0 k (sym (first-shows s v hs bv) ∙ e ∙ second-shows t v) b (omega arith) (omega arith))
+
+        made : (u : Word) → Below k u → length u < pred (n + N .states) → shows (walk step s u) ≢ shows (walk step (n + t) u) → Shown k (M .states + N .states) M N s t
+        made u bu hu du = go (least (λ c. f c ≢ g c) (λ c. dec-not (ℕ-discrete (f c) (g c))) k)
+          where
+            f : ℕ → ℕ
+            f = M .out (walk (M .next) s u)
+
+            g : ℕ → ℕ
+            g = N .out (walk (N .next) t u)
+
+            go : Least (λ c. f c ≢ g c) k ⊎ ((c : ℕ) → c < k → ¬ (f c ≢ g c)) → Shown k (M .states + N .states) M N s t
+            go (inl x) = record { v = u; b = x .at; letters = bu; low = x .below; short = omega arith; differ = x .has }
+            go (inr never) =
+                absurd (du (first-shows s u hs bu ∙ map-ext f g 0 k (λ c h. stable (ℕ-discrete (f c) (g c)) (never c (omega arith))) ∙ sym (second-shows t u)))
+
+    -- so the least such word has fewer than n + m letters
+    pub least-short : (v : Word) (b : ℕ) → Below k v → b < k → M .out (walk (M .next) s v) b ≢ N .out (walk (N .next) t v) b
+        → ((u : Word) (c : ℕ) → Below k u → c < k → M .out (walk (M .next) s u) c ≢ N .out (walk (N .next) t u) c → code k 0 (v ++ (b ∷ [])) ≤ code k 0 (u ++ (c ∷ [])))
+        → length (v ++ (b ∷ [])) < M .states + N .states
+    least-short v b bv hb d first =
+        let x = shorter v b bv hb d in
+        go x (first (x .v) (x .b) (x .letters) (x .low) (x .differ)) (decLe (length (v ++ (b ∷ []))) (suc (length (x .v))))
+      where
+        go : (x : Shown k (M .states + N .states) M N s t) → code k 0 (v ++ (b ∷ [])) ≤ code k 0 (x .v ++ (x .b ∷ []))
+            → Dec (length (v ++ (b ∷ [])) ≤ suc (length (x .v))) → length (v ++ (b ∷ [])) < M .states + N .states
+        go x le (yes h) = omega (arith, x .short)
+        go x le (no h) =
+            let l : length (x .v ++ (x .b ∷ [])) < length (v ++ (b ∷ [])) = rw (length-append (x .v) (x .b ∷ [])) (omega arith) in
+            let c = before-code k (x .v ++ (x .b ∷ [])) (v ++ (b ∷ [])) (below-append k (x .v) (x .b ∷ []) (x .letters) (x .low, tt)) (inl l) in
+            absurd (omega arith)
