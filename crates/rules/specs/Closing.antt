@@ -6,12 +6,12 @@ use mathlib.Core.Bool.{Bool, true, false, true≢false}
 use mathlib.Core.List.{List, [], _∷_, _++_, append-nil, append-assoc, head-eq-of-cons-eq, tail-eq-of-cons-eq}
 use Prim.Native.Nat.{ℕ, zero, suc, _+_, _*_, _/_, _%_, _≤_, _<_}
 use native.Mathlib.Nat.{not-suc-le-zero, le-of-suc-le-suc, mod-lt, div-lt-iff-lt-mul, eq-or-lt-of-le, mul-zero}
-use native.Mathlib.Decide.{decLt}
 use native.Mathlib.Omega.{arith}
 use lib.ListN.{length, getD, length-append, List·getD-append}
 use lib.Seq.{getD-append-seam, append-snoc}
 use lib.Arith.{digits-div, digits-mod, digits-lt}
 use lib.Dec.{eqb, ltb}
+use Rattle.rules.specs.Least.{split}
 use Rattle.rules.specs.Words.{Word, Below, below-append}
 use Rattle.rules.specs.Tests.{eqs, eqs-true, eqs-false, eqb-true, eqb-same, ltb-yes, ltb-no}
 use Rattle.rules.specs.Seek.{seek, Sought, sought}
@@ -78,12 +78,7 @@ module _ (ask : Word → ℕ) where
 
   -- the words of S are told apart, so the place of given cells is one
   pub told-place : (E S : List Word) → Told ask E S → (i j : ℕ) → i < length S → j < length S → cells ask E (getD S i []) ≡ cells ask E (getD S j []) → i ≡ j
-  told-place E S told i j hi hj e = go (decLt i j) (decLt j i)
-    where
-      go : Dec (i < j) → Dec (j < i) → i ≡ j
-      go (yes l) d = absurd (told i j l hj e)
-      go (no l) (yes m) = absurd (told j i m hi (sym e))
-      go (no l) (no m) = omega arith
+  told-place E S told i j hi hj e = split i j (λ l. absurd (told i j l hj e)) (λ q. q) (λ l. absurd (told j i l hi (sym e)))
 
   -- a word of S is its own state
   pub state-own : (E S : List Word) → Told ask E S → (j : ℕ) → j < length S → stateOf ask E S (getD S j []) ≡ j

@@ -4,7 +4,7 @@ use mathlib.Core.Logic.{_⊎_, inl, inr, _≢_}
 use mathlib.Core.List.{List}
 use Prim.Native.Nat.{ℕ, zero, suc, _+_, _≤_, _<_}
 use native.Mathlib.Nat.{eq-or-lt-of-le, le-of-suc-le-suc, not-suc-le-zero, lt-of-not-le}
-use native.Mathlib.Decide.{ℕ-discrete, decLe}
+use native.Mathlib.Decide.{ℕ-discrete, decLe, decLt}
 use native.Mathlib.Omega.{arith}
 use lib.ListN.{length, getD}
 
@@ -21,6 +21,10 @@ dec-× (no f) e = no (λ p. f (p .0))
 pub stable : {A : Type 0} → Dec A → ¬ ¬ A → A
 stable (yes a) h = a
 stable (no f) h = absurd (h f)
+
+-- less, equal or greater
+pub split : {A : Type 0} (i j : ℕ) → (i < j → A) → (i ≡ j → A) → (j < i → A) → A
+split i j f g h = elim (decLt i j) [ yes l ↦ f l | no l ↦ elim (decLt j i) [ yes m ↦ h m | no m ↦ g (omega arith) ] ]
 
 -- ---- the least number below n that has a property
 pub record Least (P : ℕ → Type 0) (n : ℕ) : Type 0 where

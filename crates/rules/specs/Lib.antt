@@ -3,6 +3,7 @@ pub mod Least
 pub mod Seek
 pub mod Words
 pub mod Search
+pub mod SearchLaws
 pub mod Machine
 pub mod Table
 pub mod Rounds
@@ -17,3 +18,5 @@ pub mod Round
 pub mod Stages
 pub mod Telling
 pub mod Lengths
+pub mod NumberingLaws
+pub mod DifferenceLaws

@@ -7,14 +7,10 @@ use native.Mathlib.Omega.{arith}
 use lib.ListN.{length, getD, take, length-append}
 use lib.Seq.{getD-at}
 use Rattle.rules.specs.Words.{Word, Below, below-append, below-take, below-at, snoc-of}
-use Rattle.rules.specs.Search.{walk}
+use Rattle.rules.specs.Search.{walk, walk-append}
 use Rattle.rules.specs.Machine.{Machine, answerFrom, answer, lastFrom, ask, Equal}
 
 -- ---- walks
-pub walk-append : {X : Type 0} (step : X → ℕ → X) (x : X) (u v : Word) → walk step x (u ++ v) ≡ walk step (walk step x u) v
-walk-append step x [] v = refl
-walk-append step x (a ∷ u) v = walk-append step (step x a) u v
-
 pub walk-low : (n k : ℕ) (step : ℕ → ℕ → ℕ) → ((s a : ℕ) → s < n → a < k → step s a < n) → (s : ℕ) (w : Word) → s < n → Below k w → walk step s w < n
 walk-low n k step low s [] h b = h
 walk-low n k step low s (a ∷ w) h b = walk-low n k step low (step s a) w (low s a h (b .0)) (b .1)

@@ -14,8 +14,8 @@ use Rattle.rules.specs.Least.{turn, stable, at-most}
 use Rattle.rules.specs.Tests.{is-true, is-false}
 use Rattle.rules.specs.Words.{Word, Below, below-at, below-take, below-drop}
 use Rattle.rules.specs.Seek.{seek, seek-is}
-use Rattle.rules.specs.Search.{walk}
-use Rattle.rules.specs.MachineLaws.{walk-append, walk-low}
+use Rattle.rules.specs.Search.{walk, walk-append}
+use Rattle.rules.specs.MachineLaws.{walk-low}
 use Rattle.rules.specs.Table.{cells, stateOf, move, swapped, cut, suffix}
 use Rattle.rules.specs.Closing.{Told, Shut, Words, Columns, cells-ext, cells-snoc, told-place, state-same, none-state}
 

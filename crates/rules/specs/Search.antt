@@ -1,7 +1,7 @@
 -- Breadth first search over a finite graph whose edges are letters: a queue of the nodes met, each with the word by which it was met
 -- first. The nodes come in the order of the least words that reach them. Used for the counterexample (nodes are pairs of states), the
 -- numbering by least words and the reachable states.
-use mathlib.Core.Path.{_≡_}
+use mathlib.Core.Path.{_≡_, refl}
 use mathlib.Core.Logic.{_≢_}
 use mathlib.Core.Bool.{Bool, true, false}
 use mathlib.Core.List.{List, [], _∷_, _++_}
@@ -14,6 +14,10 @@ use Rattle.rules.specs.Words.{Word, Below, Before, code}
 abbrev pub walk : {X : Type 0} → (X → ℕ → X) → X → Word → X
 walk step x [] = x
 walk step x (a ∷ w) = walk step (step x a) w
+
+pub walk-append : {X : Type 0} (step : X → ℕ → X) (x : X) (u v : Word) → walk step x (u ++ v) ≡ walk step (walk step x u) v
+walk-append step x [] v = refl
+walk-append step x (a ∷ u) v = walk-append step (step x a) u v
 
 -- a node that was met, and the word that met it
 pub record Entry (X : Type 0) : Type 0 where

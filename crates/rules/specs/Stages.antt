@@ -10,8 +10,7 @@ use native.Mathlib.Omega.{arith}
 use lib.ListN.{length, getD, take, drop, length-append, List·getD-append}
 use lib.Seq.{take-append-add, drop-append-add}
 use Rattle.rules.specs.Words.{Word, Below, below-append}
-use Rattle.rules.specs.Search.{walk}
-use Rattle.rules.specs.MachineLaws.{walk-append}
+use Rattle.rules.specs.Search.{walk, walk-append}
 use Rattle.rules.specs.Table.{close, Closes, move, swapped, suffix}
 use Rattle.rules.specs.Closing.{Told, Shut, Words, Columns, Short, all-snoc, told-more, closing-told, closing-words, closing-short, closing-grows, closing-ends, closes-shut, closes-long, open-grows}
 use Rattle.rules.specs.Round.{guess, Opened, round, reach-low, suffix-long, suffix-below, Classes, lower-bound}

@@ -17,6 +17,10 @@ pub true→T : (b : Bool) → b ≡ true → T b
 true→T true e = tt
 true→T false e = absurd (true≢false (sym e))
 
+pub outcome : (b : Bool) → (b ≡ true) ⊎ (b ≡ false)
+outcome true = inl refl
+outcome false = inr refl
+
 pub and-split : (a b : Bool) → (a && b) ≡ true → (a ≡ true) × (b ≡ true)
 and-split true b e = (refl, e)
 and-split false b e = absurd (true≢false (sym e))
