@@ -7,9 +7,9 @@ use lib.ListN.{length, getD}
 use lib.Dec.{ltb, leb}
 use Rattle.rules.specs.Words.{Word}
 use Rattle.rules.specs.Machine.{Machine, lent, ask}
-use Rattle.rules.specs.Table.{from, oneLetter, row, conjecture}
-use Rattle.rules.specs.Rounds.{Stop, learned, cellCount}
-use Rattle.rules.specs.Difference.{difference}
+use Rattle.rules.specs.Table.{from, row, conjecture}
+use Rattle.rules.specs.Rounds.{Stop, cellCount}
+use Rattle.rules.specs.Links.{stopped}
 use Rattle.rules.specs.Numbering.{renumbered, reachingWords, stateMap}
 use Rattle.rules.specs.Sheets.{Proof, proofBytes, wordsOf, wordBytes, CX}
 use Rattle.rules.specs.Areas.{over, zeros}
@@ -32,16 +32,6 @@ pub record Left : Type 0 where
   pub answer : Answer Learnt
   pub table : List ℕ
   pub sheet : List ℕ
-
--- rule 5: the least word on which machine and conjecture differ
-unfoldable pub counterexample : ℕ → Machine → List Word → List Word → Option Word
-unfolding difference conjecture ask
-counterexample k M E S = difference M (conjecture (ask M) E S) k 0 0
-
--- rules 1 to 6, R rounds at most: no closing appends more words than the machine has states
-unfoldable pub stopped : ℕ → Machine → ℕ → Stop
-unfolding learned counterexample oneLetter ask
-stopped k M R = learned (ask M) k 1 (M .states) (counterexample k M) R (oneLetter k)
 
 -- the finished proof sheet: the model numbered by least words, the columns in table order, 255 for unreachable states
 unfoldable pub finished : ℕ → Machine → Stop → Proof

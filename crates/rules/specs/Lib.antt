@@ -20,3 +20,4 @@ pub mod Telling
 pub mod Lengths
 pub mod NumberingLaws
 pub mod DifferenceLaws
+pub mod Links

@@ -29,6 +29,14 @@ pub record Stage (ask : Word → ℕ) (k τ first p : ℕ) (E S : List Word) : T
   -- the rounds past are fewer than the words
   pub grown : p < length S
 
+-- a stop after p rounds and at most r more
+pub record Stopped (ask : Word → ℕ) (k τ first : ℕ) (find : List Word → List Word → Option Word) (p r : ℕ) (x : Stop) : Type 0 where
+  pub stage : Stage ask k τ first (x .past) (x .E) (x .S)
+  -- the counterexample left is the finder's at that very table
+  pub asked : x .left ≡ find (x .E) (x .S)
+  pub end : (x .left ≡ none) ⊎ (x .past ≡ p + r)
+  pub few : x .past ≤ p + r
+
 first-told : (ask : Word → ℕ) (E : List Word) → Told ask E ([] ∷ [])
 first-told ask E i zero h hj = absurd (not-suc-le-zero h)
 first-told ask E i (suc j) h hj = absurd (not-suc-le-zero (le-of-suc-le-suc hj))
@@ -92,28 +100,20 @@ module _ (ask : Word → ℕ) (k τ room : ℕ) (C : Classes ask k τ room) wher
   module _ (first : ℕ) (find : List Word → List Word → Option Word)
       -- what is found is a word on which oracle and conjecture differ
       (right : (p : ℕ) (E S : List Word) (w : Word) → Stage ask k τ first p E S → find E S ≡ some w → Below k w × (ask w ≢ guess ask τ E S w)) where
-    -- a stop after p rounds and at most r more
-    pub record Stopped (p r : ℕ) (x : Stop) : Type 0 where
-      pub stage : Stage ask k τ first (x .past) (x .E) (x .S)
-      -- the counterexample left is the finder's at that very table
-      pub asked : x .left ≡ find (x .E) (x .S)
-      pub end : (x .left ≡ none) ⊎ (x .past ≡ p + r)
-      pub few : x .past ≤ p + r
-
-    pub stops : (r p : ℕ) (E S : List Word) → Stage ask k τ first p E S → Stopped p r (rounds ask k τ room find r p E S)
+    pub stops : (r p : ℕ) (E S : List Word) → Stage ask k τ first p E S → Stopped ask k τ first find p r (rounds ask k τ room find r p E S)
     unfolding rounds
     stops zero p E S st = record { stage = st; asked = refl; end = inr (omega arith); few = omega arith }
     stops (suc r) p E S st = go (find E S) refl (λ E′ S′ st′. stops r (suc p) E′ S′ st′)
       where
-        later : {x : Stop} → Stopped (suc p) r x → Stopped p (suc r) x
+        later : {x : Stop} → Stopped ask k τ first find (suc p) r x → Stopped ask k τ first find p (suc r) x
         later {x} s = record { stage = s .stage; asked = s .asked; end = end′ (s .end); few = omega (arith, s .few) }
           where
             end′ : (x .left ≡ none) ⊎ (x .past ≡ suc p + r) → (x .left ≡ none) ⊎ (x .past ≡ p + suc r)
             end′ (inl e) = inl e
             end′ (inr e) = inr (omega arith)
 
-        go : (o : Option Word) → find E S ≡ o → ((E′ S′ : List Word) → Stage ask k τ first (suc p) E′ S′ → Stopped (suc p) r (rounds ask k τ room find r (suc p) E′ S′))
-            → Stopped p (suc r) (rounds ask k τ room find (suc r) p E S)
+        go : (o : Option Word) → find E S ≡ o → ((E′ S′ : List Word) → Stage ask k τ first (suc p) E′ S′ → Stopped ask k τ first find (suc p) r (rounds ask k τ room find r (suc p) E′ S′))
+            → Stopped ask k τ first find p (suc r) (rounds ask k τ room find (suc r) p E S)
         go none e ih = rw (e, rounds) (record { stage = st; asked = sym e; end = inl refl; few = omega arith })
         go (some w) e ih =
             let h = right p E S w st e in
@@ -126,7 +126,7 @@ module _ (ask : Word → ℕ) (k τ room : ℕ) (C : Classes ask k τ room) wher
         x : Stop
         x = rounds ask k τ room find r 0 E S
 
-        s : Stopped 0 r x
+        s : Stopped ask k τ first find 0 r x
         s = stops r 0 E S st
 
         go : (o : Option Word) → x .left ≡ o → (x .left ≡ none) ⊎ (x .past ≡ 0 + r) → x .left ≡ none
