@@ -11,3 +11,4 @@ pub mod Numbering
 pub mod Answer
 pub mod Sheets
 pub mod Areas
+pub mod SheetLaws
