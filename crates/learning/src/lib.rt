@@ -1,1 +1,2 @@
 // The learning part.
+pub mod records;

@@ -21,3 +21,4 @@ pub mod Lengths
 pub mod NumberingLaws
 pub mod DifferenceLaws
 pub mod Links
+pub mod SheetLaws

@@ -1,4 +1,5 @@
 pub mod Reading
+pub mod Steps
 pub mod Machines
 pub mod Proofs
 pub mod Checker

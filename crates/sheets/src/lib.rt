@@ -1,1 +1,2 @@
 // Sheets and the checker.
+pub mod reading;
