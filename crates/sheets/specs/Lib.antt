@@ -2,5 +2,8 @@ pub mod Reading
 pub mod Steps
 pub mod Machines
 pub mod Proofs
+pub mod WordRecords
+pub mod ProofSteps
+pub mod ProofAnswers
 pub mod Checker
 pub mod Cases

@@ -1,2 +1,3 @@
 // Sheets and the checker.
+pub mod proofs;
 pub mod reading;

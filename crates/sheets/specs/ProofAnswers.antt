@@ -1,0 +1,39 @@
+-- The answers of the proof sheet's reader in the paper's terms, and that these fix them: two answers that meet one promise are equal.
+use mathlib.Core.Path.{_≡_, refl, sym, ap, _∙_}
+use Prim.Native.Nat.{ℕ}
+use native.Mathlib.Omega.{arith}
+use Rattle.rules.specs.Answer.{Answer, refused, gives}
+use Rattle.machine.specs.Refusals.{number, number-inj}
+use Rattle.sheets.specs.declared.proofs.Step.{Step}
+use Rattle.sheets.specs.declared.proofs.Step.the-variants as step
+use Rattle.sheets.specs.declared.proofs.ProofRead.{ProofRead}
+use Rattle.sheets.specs.declared.proofs.ProofRead.the-variants as proof
+use Rattle.sheets.specs.Proofs.{Counts}
+
+abbrev pub stepped : Step → Answer ℕ
+stepped (step.Next place) = gives place
+stepped (step.Refused r) = refused (number r)
+
+abbrev pub readOf : ProofRead → Answer Counts
+readOf (proof.Read m k n c) = gives (record { m = m; k = k; n = n; c = c })
+readOf (proof.Refused r) = refused (number r)
+
+-- an answer is no refusal
+clash : {A : Type 0} {x : ℕ} {a : A} → _≡_ {A = Answer A} (refused x) (gives a) → ⊥
+clash e = let z : _≡_ {A = ℕ} 0 1 = cc in omega arith
+
+-- the values of an answer
+abbrev values : Answer Counts → Counts
+values (refused x) = record { m = 0; k = 0; n = 0; c = 0 }
+values (gives counts) = counts
+
+pub read-fixed : (x y : ProofRead) → readOf x ≡ readOf y → x ≡ y
+read-fixed (proof.Read m k n c) (proof.Read m′ k′ n′ c′) e =
+    let a : m ≡ m′ = ap (λ (x : Answer Counts). values x .m) e in
+    let b : k ≡ k′ = ap (λ (x : Answer Counts). values x .k) e in
+    let d : n ≡ n′ = ap (λ (x : Answer Counts). values x .n) e in
+    let f : c ≡ c′ = ap (λ (x : Answer Counts). values x .c) e in
+    cc
+read-fixed (proof.Read m k n c) (proof.Refused s) e = absurd (clash (sym e))
+read-fixed (proof.Refused r) (proof.Read m k n c) e = absurd (clash e)
+read-fixed (proof.Refused r) (proof.Refused s) e = let h : number r ≡ number s = cc in ap proof.Refused (number-inj r s h)

@@ -1,0 +1,202 @@
+-- Records of words (AW, CW): what is read was written so, what is written is read back, and where each of them lies in the sheet.
+use mathlib.Core.Path.{_≡_, refl, sym, ap, ap₂, _∙_, subst}
+use mathlib.Core.Bool.{Bool, true, false, _&&_}
+use mathlib.Core.List.{List, [], _∷_, _++_, append-assoc}
+use Prim.Native.Nat.{ℕ, zero, suc, _+_, _*_, _-_, _≤_, _<_}
+use native.Mathlib.Nat.{not-suc-le-zero, le-of-suc-le-suc}
+use native.Mathlib.Omega.{arith}
+use lib.ListN.{length, getD, take, drop, length-append, length-drop, length-take, take-append-drop}
+use lib.Seq.{drop-cons, drop-drop, take-at, drop-at, getD-drop, length-take-le, take-length, take-append-seam, drop-append-seam}
+use lib.Dec.{eqb, ltb, leb}
+use Rattle.rules.specs.Tests.{eqs, eqs-same, leb-yes, le-yes}
+use Rattle.rules.specs.Words.{Word, Below}
+use Rattle.rules.specs.Answer.{within}
+use Rattle.rules.specs.Sheets.{wordBytes, wordsBytes}
+use Rattle.machine.specs.Lent.{lettersBelow}
+use Rattle.machine.specs.LentLaws.{within-both, letters-below, below-letters}
+use Rattle.sheets.specs.Reading.{Parsed, bad, good, Reader, pure, andThen, _>>=_, _>>_, demand, present, byte, grab, mark}
+use Rattle.sheets.specs.Proofs.{wordRecord, wordRecords}
+use Rattle.sheets.specs.Steps.{bad-good, then-good, mark-were}
+
+-- what a word of a record has: a length from low to high and letters below k
+abbrev pub Fits : ℕ → ℕ → ℕ → Word → Type 0
+Fits low high k w = (low ≤ length w) × (length w ≤ high) × Below k w
+
+abbrev pub AllFit : ℕ → ℕ → ℕ → List Word → Type 0
+AllFit low high k [] = Unit {0}
+AllFit low high k (w ∷ words) = Fits low high k w × AllFit low high k words
+
+pub fits-at : (low high k : ℕ) (words : List Word) (j : ℕ) → AllFit low high k words → j < length words → Fits low high k (getD words j [])
+fits-at low high k [] j f h = absurd (not-suc-le-zero h)
+fits-at low high k (w ∷ words) zero f h = f .0
+fits-at low high k (w ∷ words) (suc j) f h = fits-at low high k words j (f .1) (le-of-suc-le-suc h)
+
+-- the record after its mark and its length
+unfoldable pub letters : ℕ → ℕ → ℕ → ℕ → Reader Word
+unfolding lettersBelow
+letters low high k size = do
+  demand (within low high size) 6
+  present size
+  w ← grab size
+  demand (lettersBelow k w) 6
+  pure w
+
+-- a step that came out good had its demand met
+pub demand-met : {A : Type 0} (t : Bool) (x : ℕ) (step : Reader A) (bytes : List ℕ) (a : A) (rest : List ℕ)
+    → andThen (demand t x bytes) (λ (u : Unit {0}). step) ≡ good a rest → (t ≡ true) × (step bytes ≡ good a rest)
+demand-met true x step bytes a rest e = (refl, e)
+demand-met false x step bytes a rest e = absurd (bad-good e)
+
+-- ---- what is read was written so
+letters-were : (low high k size : ℕ) (bytes w rest : List ℕ) → letters low high k size bytes ≡ good w rest
+    → (size ≡ length w) × (bytes ≡ w ++ rest) × Fits low high k w
+unfolding letters
+letters-were low high k size bytes w rest e =
+    let a = demand-met (within low high size) 6 _ bytes w rest e in
+    let b = demand-met (leb size (length bytes)) 1 _ bytes w rest (a .1) in
+    let c = demand-met (lettersBelow k (take size bytes)) 6 _ (drop size bytes) w rest (b .1) in
+    let v : take size bytes ≡ w = cc in
+    let r : drop size bytes ≡ rest = cc in
+    let l : size ≡ length w = sym (length-take-le size bytes (leb-yes size (length bytes) (b .0))) ∙ ap length v in
+    let i = within-both low high size (a .0) in
+    (l, sym (take-append-drop size bytes) ∙ ap₂ _++_ v r, (omega (arith, i .0), omega (arith, i .1), subst (λ (z : Word). Below k z) v (letters-below k (take size bytes) (c .0))))
+
+pub word-were : (due : List ℕ) (low high k : ℕ) (bytes w rest : List ℕ) → wordRecord due low high k bytes ≡ good w rest
+    → (bytes ≡ wordBytes due w ++ rest) × Fits low high k w
+unfolding wordRecord letters wordBytes
+word-were due low high k bytes w rest e =
+    let a = then-good (mark due bytes) _ w rest e in
+    let m = mark-were due bytes (a .0) (a .1) (a .2) in
+    let g = sized (a .1) (a .3) in
+    (sym (take-append-drop 2 bytes) ∙ ap₂ _++_ (m .2) (sym (m .1) ∙ g .0) ∙ sym (append-assoc due (length w ∷ w) rest), g .1)
+  where
+    sized : (after : List ℕ) → andThen (byte after) (letters low high k) ≡ good w rest → (after ≡ length w ∷ (w ++ rest)) × Fits low high k w
+    sized [] e = absurd (bad-good e)
+    sized (size ∷ after) e =
+        let l = letters-were low high k size after w rest e in
+        (ap₂ {C = List ℕ} _∷_ (l .0) (l .1), l .2)
+
+pub words-were : (due : List ℕ) (low high k count : ℕ) (bytes : List ℕ) (words : List Word) (rest : List ℕ) → wordRecords due low high k count bytes ≡ good words rest
+    → (bytes ≡ wordsBytes due words ++ rest) × (length words ≡ count) × AllFit low high k words
+unfolding wordRecords wordsBytes
+words-were due low high k zero bytes words rest e =
+    let w : words ≡ [] = cc in
+    let r : bytes ≡ rest = cc in
+    rw w (r, refl, tt)
+words-were due low high k (suc count) bytes words rest e =
+    let a = then-good (wordRecord due low high k bytes) _ words rest e in
+    let b = then-good (wordRecords due low high k count (a .1)) _ words rest (a .3) in
+    let first = word-were due low high k bytes (a .0) (a .1) (a .2) in
+    let more = words-were due low high k count (a .1) (b .0) (b .1) (b .2) in
+    let v : words ≡ a .0 ∷ b .0 = cc in
+    let r : b .1 ≡ rest = cc in
+    let whole : bytes ≡ wordsBytes due (a .0 ∷ b .0) ++ rest =
+    first .0 ∙ ap (λ (l : List ℕ). wordBytes due (a .0) ++ l) (more .0 ∙ ap (λ (l : List ℕ). wordsBytes due (b .0) ++ l) r)
+    ∙ sym (append-assoc (wordBytes due (a .0)) (wordsBytes due (b .0)) rest) in
+    subst (λ (l : List Word). (bytes ≡ wordsBytes due l ++ rest) × (length l ≡ suc count) × AllFit low high k l) (sym v) (whole, ap suc (more .1), (first .1, more .2))
+
+-- ---- what is written is read back
+pub mark-read : (x y : ℕ) (rest : List ℕ) → mark (x ∷ y ∷ []) ((x ∷ y ∷ []) ++ rest) ≡ good tt rest
+unfolding mark
+mark-read x y rest = rw (le-yes 2 (suc (suc (length rest))) (omega arith), eqs-same (x ∷ y ∷ []))
+
+pub word-read : (x y low high k : ℕ) (w rest : List ℕ) → Fits low high k w → wordRecord (x ∷ y ∷ []) low high k (wordBytes (x ∷ y ∷ []) w ++ rest) ≡ good w rest
+unfolding wordRecord wordBytes
+word-read x y low high k w rest f =
+    let long : leb (length w) (length (w ++ rest)) ≡ true = le-yes (length w) (length (w ++ rest)) (rw (length-append w rest) (omega arith)) in
+    rw (mark-read x y (length w ∷ (w ++ rest)), le-yes low (length w) (f .0), le-yes (length w) high (f .1), long, take-append-seam w rest, drop-append-seam w rest, below-letters k w (f .2))
+
+-- the first of the records, and the others
+pub words-first : (due : List ℕ) (low high k count : ℕ) (bytes : List ℕ)
+    → wordRecords due low high k (suc count) bytes ≡ andThen (wordRecord due low high k bytes) (λ w. _>>=_ (wordRecords due low high k count) (λ others. pure (w ∷ others)))
+unfolding wordRecords
+words-first due low high k count bytes = refl
+
+pub words-read : (x y low high k : ℕ) (words : List Word) (rest : List ℕ) → AllFit low high k words
+    → wordRecords (x ∷ y ∷ []) low high k (length words) (wordsBytes (x ∷ y ∷ []) words ++ rest) ≡ good words rest
+unfolding wordRecords wordsBytes
+words-read x y low high k [] rest f = refl
+words-read x y low high k (w ∷ words) rest f =
+    let due : List ℕ = x ∷ y ∷ [] in
+    let others : List ℕ = wordsBytes due words ++ rest in
+    ap (wordRecords due low high k (suc (length words))) (append-assoc (wordBytes due w) (wordsBytes due words) rest)
+    ∙ ap (λ (p : Parsed Word). andThen p (λ v. _>>=_ (wordRecords due low high k (length words)) (λ more. pure (v ∷ more)))) (word-read x y low high k w others (f .0))
+    ∙ ap (λ (p : Parsed (List Word)). andThen p (λ more. pure (w ∷ more))) (words-read x y low high k words rest (f .1))
+
+-- ---- where records lie
+-- the place of the record number j, counted from the record at a place: each has a mark, a length and that many letters
+unfoldable pub recordPlace : List ℕ → ℕ → ℕ → ℕ
+recordPlace bytes at zero = at
+recordPlace bytes at (suc j) = recordPlace bytes (at + (3 + getD bytes (at + 2) 0)) j
+
+-- a word's record at a place of the sheet
+pub record Lies (due w bytes : List ℕ) (place : ℕ) : Type 0 where
+  pub within : place + (3 + length w) ≤ length bytes
+  pub size : getD bytes (place + 2) 0 ≡ length w
+  pub letters : take (length w) (drop (place + 3) bytes) ≡ w
+  pub whole : take (3 + length w) (drop place bytes) ≡ wordBytes due w
+
+-- after j records of words, counted from a place
+pub record Passed (due bytes : List ℕ) (words : List Word) (rest : List ℕ) (at j : ℕ) : Type 0 where
+  pub place : recordPlace bytes at j ≡ at + length (wordsBytes due (take j words))
+  pub left : drop (recordPlace bytes at j) bytes ≡ wordsBytes due (drop j words) ++ rest
+  pub within : recordPlace bytes at j ≤ length bytes
+
+module _ (x y : ℕ) (bytes : List ℕ) where
+  pub lies : (w rest : List ℕ) (place : ℕ) → drop place bytes ≡ wordBytes (x ∷ y ∷ []) w ++ rest → Lies (x ∷ y ∷ []) w bytes place
+  unfolding wordBytes
+  lies w rest place e =
+      let long : length (drop place bytes) ≡ 3 + (length w + length rest) = ap length e ∙ ap (λ (n : ℕ). suc (suc (suc n))) (length-append w rest) ∙ omega arith in
+      let there : length bytes - place ≡ length (drop place bytes) = sym (length-drop place bytes) in
+      record {
+        within = omega arith;
+        size = sym (getD-drop place bytes 2 0) ∙ ap (λ (l : List ℕ). getD l 2 0) e;
+        letters = ap (take (length w)) (sym (drop-drop 3 place bytes) ∙ ap (drop 3) e) ∙ take-append-seam w rest;
+        whole = ap (take (3 + length w)) e ∙ take-at (x ∷ y ∷ length w ∷ w) rest (3 + length w) (omega arith);
+      }
+
+  -- the bytes after a record
+  pub lies-after : (w rest : List ℕ) (place : ℕ) → drop place bytes ≡ wordBytes (x ∷ y ∷ []) w ++ rest → drop (place + (3 + length w)) bytes ≡ rest
+  unfolding wordBytes
+  lies-after w rest place e = sym (drop-drop (3 + length w) place bytes) ∙ ap (drop (3 + length w)) e ∙ drop-at (x ∷ y ∷ length w ∷ w) rest (3 + length w) (omega arith)
+
+  pub passed : (words : List Word) (rest : List ℕ) (at j : ℕ) → at ≤ length bytes → drop at bytes ≡ wordsBytes (x ∷ y ∷ []) words ++ rest → j ≤ length words
+      → Passed (x ∷ y ∷ []) bytes words rest at j
+  unfolding recordPlace wordsBytes
+  passed words rest at zero low e h = record { place = omega arith; left = e; within = low }
+  passed [] rest at (suc j) low e h = absurd (not-suc-le-zero h)
+  passed (w ∷ words) rest at (suc j) low e h =
+      let here : drop at bytes ≡ wordBytes (x ∷ y ∷ []) w ++ (wordsBytes (x ∷ y ∷ []) words ++ rest) = e ∙ append-assoc (wordBytes (x ∷ y ∷ []) w) (wordsBytes (x ∷ y ∷ []) words) rest in
+      let l = lies w (wordsBytes (x ∷ y ∷ []) words ++ rest) at here in
+      let p = passed words rest (at + (3 + length w)) j (l .within) (lies-after w (wordsBytes (x ∷ y ∷ []) words ++ rest) at here) (le-of-suc-le-suc h) in
+      let next : recordPlace bytes at (suc j) ≡ recordPlace bytes (at + (3 + length w)) j = ap (λ (n : ℕ). recordPlace bytes (at + (3 + n)) j) (l .size) in
+      record {
+        place = next ∙ p .place ∙ simp length-append (omega arith);
+        left = ap (λ (n : ℕ). drop n bytes) next ∙ p .left;
+        within = omega (arith, next, p .within);
+      }
+
+  -- the record number j
+  pub record-lies : (words : List Word) (rest : List ℕ) (at j : ℕ) → at ≤ length bytes → drop at bytes ≡ wordsBytes (x ∷ y ∷ []) words ++ rest → j < length words
+      → Lies (x ∷ y ∷ []) (getD words j []) bytes (recordPlace bytes at j)
+  unfolding wordsBytes
+  record-lies words rest at j low e h =
+      let p = passed words rest at j low e (omega arith) in
+      lies (getD words j []) (wordsBytes (x ∷ y ∷ []) (drop (suc j) words) ++ rest) (recordPlace bytes at j)
+      (p .left ∙ ap (λ (l : List Word). wordsBytes (x ∷ y ∷ []) l ++ rest) (drop-cons words j [] h)
+      ∙ append-assoc (wordBytes (x ∷ y ∷ []) (getD words j [])) (wordsBytes (x ∷ y ∷ []) (drop (suc j) words)) rest)
+
+-- ---- one record after the other, as the code passes them
+pub place-more : (bytes : List ℕ) (at j : ℕ) → at ≤ recordPlace bytes at j
+unfolding recordPlace
+place-more bytes at zero = omega arith
+place-more bytes at (suc j) = let h = place-more bytes (at + (3 + getD bytes (at + 2) 0)) j in omega arith
+
+pub place-next : (bytes : List ℕ) (at left : ℕ) → 0 < left → recordPlace bytes at left ≡ recordPlace bytes (at + (3 + getD bytes (at + 2) 0)) (left - 1)
+unfolding recordPlace
+place-next bytes at zero h = absurd (omega arith)
+place-next bytes at (suc left) h = let m : suc left - 1 ≡ left = omega arith in rw m
+
+pub place-end : (bytes : List ℕ) (at : ℕ) → recordPlace bytes at 0 ≡ at
+unfolding recordPlace
+place-end bytes at = refl
