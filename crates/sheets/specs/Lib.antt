@@ -5,5 +5,6 @@ pub mod Proofs
 pub mod WordRecords
 pub mod ProofSteps
 pub mod ProofAnswers
+pub mod Places
 pub mod Checker
 pub mod Cases

@@ -1,7 +1,6 @@
 -- The answers of the proof sheet's reader in the paper's terms, and that these fix them: two answers that meet one promise are equal.
 use mathlib.Core.Path.{_≡_, refl, sym, ap, _∙_}
 use Prim.Native.Nat.{ℕ}
-use native.Mathlib.Omega.{arith}
 use Rattle.rules.specs.Answer.{Answer, refused, gives}
 use Rattle.machine.specs.Refusals.{number, number-inj}
 use Rattle.sheets.specs.declared.proofs.Step.{Step}
@@ -9,6 +8,7 @@ use Rattle.sheets.specs.declared.proofs.Step.the-variants as step
 use Rattle.sheets.specs.declared.proofs.ProofRead.{ProofRead}
 use Rattle.sheets.specs.declared.proofs.ProofRead.the-variants as proof
 use Rattle.sheets.specs.Proofs.{Counts}
+use Rattle.sheets.specs.ProofSteps.{clash}
 
 abbrev pub stepped : Step → Answer ℕ
 stepped (step.Next place) = gives place
@@ -17,10 +17,6 @@ stepped (step.Refused r) = refused (number r)
 abbrev pub readOf : ProofRead → Answer Counts
 readOf (proof.Read m k n c) = gives (record { m = m; k = k; n = n; c = c })
 readOf (proof.Refused r) = refused (number r)
-
--- an answer is no refusal
-clash : {A : Type 0} {x : ℕ} {a : A} → _≡_ {A = Answer A} (refused x) (gives a) → ⊥
-clash e = let z : _≡_ {A = ℕ} 0 1 = cc in omega arith
 
 -- the values of an answer
 abbrev values : Answer Counts → Counts

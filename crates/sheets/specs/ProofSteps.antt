@@ -6,19 +6,24 @@ use mathlib.Core.List.{List, [], _∷_, _++_, append-assoc}
 use Prim.Native.Nat.{ℕ, zero, suc, _+_, _*_, _-_, _≤_, _<_}
 use native.Mathlib.Omega.{arith}
 use lib.ListN.{length, getD, take, drop, length-append, length-drop, take-append-drop, drop-of-length-le}
-use lib.Seq.{drop-cons, drop-drop, drop-append-seam}
+use lib.Seq.{drop-cons, drop-drop, drop-append-seam, length-take-le}
 use lib.Dec.{eqb, ltb, leb}
 use borrow.Author.Tests.{le-leb, lt-leb}
+use Rattle.rules.specs.Tests.{leb-yes, and-split}
 use Rattle.rules.specs.Words.{Word}
 use Rattle.rules.specs.Answer.{Answer, refused, gives, within}
 use Rattle.rules.specs.Sheets.{PH, AW, CW, SM, Proof, wordBytes, wordsBytes}
 use Rattle.machine.specs.Lent.{allPass, lettersBelow}
+use Rattle.machine.specs.LentLaws.{within-both}
 use Rattle.sheets.specs.Reading.{Parsed, bad, good, Reader, pure, andThen, _>>=_, _>>_, demand, present, byte, grab, atEnd, mark, rows}
 use Rattle.sheets.specs.Proofs.{wordRecord, wordRecords, mapByte, proofSheet, Counts, countsOf, readProof}
-use Rattle.sheets.specs.Steps.{outcome, came-good, came-bad, mark-took}
-use Rattle.sheets.specs.WordRecords.{letters, word-were, words-were, words-first}
+use Rattle.sheets.specs.Steps.{outcome, came-good, came-bad, bad-good, then-good, two, mark-were, Took, mark-took}
+use Rattle.sheets.specs.WordRecords.{letters, demand-met, word-were, words-were, words-first}
 
 -- ---- the parts of a proof sheet
+abbrev pub counts : ℕ → ℕ → ℕ → ℕ → Counts
+counts m k n c = record { m = m; k = k; n = n; c = c }
+
 -- PH, its four numbers present, each in its range
 unfoldable pub header : Reader Counts
 header = do
@@ -32,7 +37,7 @@ header = do
   demand (within 1 12 k) 3
   demand (within 1 48 n) 3
   demand (leb c 59) 3
-  pure (record { m = m; k = k; n = n; c = c })
+  pure (counts m k n c)
 
 -- SM, its n bytes present, each below m or 255
 unfoldable pub mapRecord : ℕ → ℕ → Reader (List ℕ)
@@ -85,7 +90,12 @@ pub record Went {A : Type 0} (p : Parsed A) (bytes : List ℕ) (next : ℕ) : Ty
   pub is : p ≡ good value (drop next bytes)
   pub within : next ≤ length bytes
 
-clash : {A : Type 0} {x : ℕ} {a : A} → _≡_ {A = Answer A} (refused x) (gives a) → ⊥
+-- a step of which it is known how many bytes it takes
+pub took-went : {A : Type 0} {p : Parsed A} {bytes : List ℕ} {at count : ℕ} → Took p bytes at count → Went p bytes (at + count)
+took-went t = record { value = t .value; is = t .is; within = t .within }
+
+-- an answer is no refusal
+pub clash : {A : Type 0} {x : ℕ} {a : A} → _≡_ {A = Answer A} (refused x) (gives a) → ⊥
 clash e = let z : _≡_ {A = ℕ} 0 1 = cc in omega arith
 
 pub after-bad : {A : Type 0} (p : Parsed A) (bytes : List ℕ) (x : ℕ) → after bytes p ≡ refused x → p ≡ bad x
@@ -180,3 +190,231 @@ module _ (bytes : List ℕ) (at : ℕ) (low : at ≤ length bytes) where
 pub words-end : (due : List ℕ) (least most k : ℕ) (bytes : List ℕ) (place : ℕ) → place ≤ length bytes → after bytes (wordRecords due least most k 0 (drop place bytes)) ≡ gives place
 unfolding wordRecords
 words-end due least most k bytes place h = after-place {A = List Word} bytes [] place h
+
+-- ---- the header
+-- the numbers, as they stand
+abbrev pub countsAt : List ℕ → Counts
+countsAt bytes = counts (getD bytes 2 0) (getD bytes 3 0) (getD bytes 4 0) (getD bytes 5 0)
+
+-- each in its range
+unfoldable pub inRange : Counts → Bool
+inRange h = within 1 48 (h .m) && (within 1 12 (h .k) && (within 1 48 (h .n) && leb (h .c) 59))
+
+pub record InRange (h : Counts) : Type 0 where
+  pub m-low : 1 ≤ h .m
+  pub m-high : h .m ≤ 48
+  pub k-low : 1 ≤ h .k
+  pub k-high : h .k ≤ 12
+  pub n-low : 1 ≤ h .n
+  pub n-high : h .n ≤ 48
+  pub c-high : h .c ≤ 59
+
+pub in-range : (h : Counts) → inRange h ≡ true → InRange h
+unfolding inRange
+in-range h e =
+    let a = and-split (within 1 48 (h .m)) _ e in
+    let b = and-split (within 1 12 (h .k)) _ (a .1) in
+    let d = and-split (within 1 48 (h .n)) _ (b .1) in
+    let m = within-both 1 48 (h .m) (a .0) in
+    let k = within-both 1 12 (h .k) (b .0) in
+    let n = within-both 1 48 (h .n) (d .0) in
+    record { m-low = m .0; m-high = m .1; k-low = k .0; k-high = k .1; n-low = n .0; n-high = n .1; c-high = leb-yes (h .c) 59 (d .1) }
+
+-- demands of one number are one demand
+four : (a b c d : Bool) (h : Counts) (rest : List ℕ)
+    → andThen (demand a 3 rest) (λ u. _>>_ (demand b 3) (_>>_ (demand c 3) (_>>_ (demand d 3) (pure h)))) ≡ andThen (demand (a && (b && (c && d))) 3 rest) (λ u. pure h)
+four false b c d h rest = refl
+four true false c d h rest = refl
+four true true false d h rest = refl
+four true true true d h rest = refl
+
+pub header-refused : (bytes : List ℕ) (x : ℕ) → outcome (mark PH bytes) ≡ refused x → outcome (header bytes) ≡ refused x
+unfolding header
+header-refused bytes x e = rw (came-bad (mark PH bytes) x e)
+
+module _ (bytes : List ℕ) (marked : outcome (mark PH bytes) ≡ gives tt) where
+  pub header-short : length bytes < 6 → outcome (header bytes) ≡ refused 1
+  unfolding header
+  header-short h =
+      let t = mark-took bytes 0 (omega arith) PH marked in
+      let l : length (drop 2 bytes) < 4 = simp length-drop (omega (arith, t .within)) in
+      rw (t .is, lt-leb 4 (length (drop 2 bytes)) l)
+
+  pub header-opens : 6 ≤ length bytes → header bytes ≡ andThen (demand (inRange (countsAt bytes)) 3 (drop 6 bytes)) (λ u. pure (countsAt bytes))
+  unfolding header inRange
+  header-opens h =
+      let l : 4 ≤ length (drop 2 bytes) = simp length-drop (omega arith) in
+      rw (mark-took bytes 0 (omega arith) PH marked .is, le-leb 4 (length (drop 2 bytes)) l, two bytes 2 (omega arith), two bytes 4 (omega arith))
+      (four (within 1 48 (getD bytes 2 0)) (within 1 12 (getD bytes 3 0)) (within 1 48 (getD bytes 4 0)) (leb (getD bytes 5 0) 59) (countsAt bytes) (drop 6 bytes))
+
+  pub header-judged : (t : Bool) → 6 ≤ length bytes → inRange (countsAt bytes) ≡ t → outcome (header bytes) ≡ elim t [ false ↦ refused 3 | true ↦ gives tt ]
+  header-judged t h e = ap outcome (header-opens h) ∙ rw e (judged t)
+    where
+      judged : (t : Bool) → outcome (andThen (demand t 3 (drop 6 bytes)) (λ u. pure (countsAt bytes))) ≡ elim t [ false ↦ refused 3 | true ↦ gives tt ]
+      judged false = refl
+      judged true = refl
+
+-- a header that came out good has six bytes, and its numbers are in range
+pub record Headed (bytes : List ℕ) : Type 0 where
+  pub within : 6 ≤ length bytes
+  pub is : header bytes ≡ good (countsAt bytes) (drop 6 bytes)
+  pub ranges : InRange (countsAt bytes)
+
+pub headed : (bytes : List ℕ) (g : Counts) (rest : List ℕ) → header bytes ≡ good g rest → Headed bytes
+unfolding header
+headed bytes g rest e =
+    let a = then-good (mark PH bytes) _ g rest e in
+    let m = mark-were PH bytes (a .0) (a .1) (a .2) in
+    let b = demand-met (leb 4 (length (a .1))) 1 _ (a .1) g rest (a .3) in
+    let l : 6 ≤ length bytes = omega (arith, leb-yes 4 (length (a .1)) (b .0), ap length (m .1) ∙ length-drop 2 bytes) in
+    let o = header-opens bytes (ap outcome (a .2)) l in
+    let r = demand-met (inRange (countsAt bytes)) 3 (pure (countsAt bytes)) (drop 6 bytes) g rest (sym o ∙ e) in
+    record { within = l; is = o ∙ rw (r .0) refl; ranges = in-range (countsAt bytes) (r .0) }
+
+pub header-good : (bytes : List ℕ) → outcome (header bytes) ≡ gives tt → Headed bytes
+header-good bytes e = let g = came-good (header bytes) e in headed bytes (g .0) (g .1) (g .2)
+
+-- ---- the state map
+pub map-were : (m n : ℕ) (bytes states rest : List ℕ) → mapRecord m n bytes ≡ good states rest → (bytes ≡ SM ++ (states ++ rest)) × (length states ≡ n) × (allPass (mapByte m) states ≡ true)
+unfolding mapRecord
+map-were m n bytes states rest e =
+    let a = then-good (mark SM bytes) _ states rest e in
+    let t = mark-were SM bytes (a .0) (a .1) (a .2) in
+    let b = demand-met (leb n (length (a .1))) 1 _ (a .1) states rest (a .3) in
+    let d = demand-met (allPass (mapByte m) (take n (a .1))) 4 _ (drop n (a .1)) states rest (b .1) in
+    let v : take n (a .1) ≡ states = cc in
+    let r : drop n (a .1) ≡ rest = cc in (
+      sym (take-append-drop 2 bytes) ∙ ap₂ _++_ (t .2) (sym (t .1) ∙ sym (take-append-drop n (a .1)) ∙ ap₂ _++_ v r),
+      sym (ap length v) ∙ length-take-le n (a .1) (leb-yes n (length (a .1)) (b .0)),
+      subst (λ (l : List ℕ). allPass (mapByte m) l ≡ true) v (d .0),
+    )
+
+module _ (bytes : List ℕ) (at : ℕ) (low : at ≤ length bytes) (m n : ℕ) where
+  pub map-went : (next : ℕ) → after bytes (mapRecord m n (drop at bytes)) ≡ gives next → Went (mapRecord m n (drop at bytes)) bytes next
+  map-went next = went (mapRecord m n (drop at bytes)) bytes at next low (λ states rest e. (SM ++ states, map-were m n (drop at bytes) states rest e .0))
+
+  pub map-refused : (x : ℕ) → outcome (mark SM (drop at bytes)) ≡ refused x → after bytes (mapRecord m n (drop at bytes)) ≡ refused x
+  unfolding mapRecord
+  map-refused x e = rw (came-bad (mark SM (drop at bytes)) x e)
+
+  pub map-short : outcome (mark SM (drop at bytes)) ≡ gives tt → length bytes < at + 2 + n → after bytes (mapRecord m n (drop at bytes)) ≡ refused 1
+  unfolding mapRecord
+  map-short e h =
+      let t = mark-took bytes at low SM e in
+      let l : length (drop (at + 2) bytes) < n = simp length-drop (omega (arith, t .within)) in
+      rw (t .is, lt-leb n (length (drop (at + 2) bytes)) l)
+
+  pub map-judged : (t : Bool) → outcome (mark SM (drop at bytes)) ≡ gives tt → at + 2 + n ≤ length bytes → allPass (mapByte m) (take (at + 2 + n - (at + 2)) (drop (at + 2) bytes)) ≡ t
+      → after bytes (mapRecord m n (drop at bytes)) ≡ elim t [ false ↦ refused 4 | true ↦ gives (at + 2 + n) ]
+  unfolding mapRecord
+  map-judged t e h f =
+      let size : at + 2 + n - (at + 2) ≡ n = omega arith in
+      let l : n ≤ length (drop (at + 2) bytes) = simp length-drop (omega arith) in
+      rw (mark-took bytes at low SM e .is, le-leb n (length (drop (at + 2) bytes)) l, rw size at f) (judged t)
+    where
+      states : List ℕ
+      states = take n (drop (at + 2) bytes)
+
+      judged : (t : Bool) → after bytes (andThen (demand t 4 (drop n (drop (at + 2) bytes))) (λ u. pure states)) ≡ elim t [ false ↦ refused 4 | true ↦ gives (at + 2 + n) ]
+      judged false = refl
+      judged true = ap (λ (l : List ℕ). gives (length bytes - length l)) (drop-drop n (at + 2) bytes) ∙ after-place bytes states (at + 2 + n) h
+
+-- ---- the body
+-- its parts, one after the other
+pub record Parts (h : Counts) (bytes : List ℕ) (P : Proof) (rest : List ℕ) : Type 0 where
+  pub after-model : List ℕ
+  pub after-reaching : List ℕ
+  pub after-columns : List ℕ
+  pub model : rows (P .m) (P .k) (P .m) bytes ≡ good (P .model) after-model
+  pub reaching : wordRecords AW 0 47 (P .k) (P .m) after-model ≡ good (P .reaching) after-reaching
+  pub columns : wordRecords CW 1 93 (P .k) (P .c) after-reaching ≡ good (P .columns) after-columns
+  pub states : mapRecord (P .m) (P .n) after-columns ≡ good (P .stateMap) []
+  pub end : rest ≡ []
+  pub said : counts (P .m) (P .k) (P .n) (P .c) ≡ h
+
+-- the value of a step, and one where it has none
+abbrev valueOr : {A : Type 0} → A → Parsed A → A
+valueOr other (bad x) = other
+valueOr other (good a rest) = a
+
+pub parts : (h : Counts) (bytes : List ℕ) (P : Proof) (rest : List ℕ) → body h bytes ≡ good P rest → Parts h bytes P rest
+unfolding body
+parts h bytes P rest e =
+    let a = then-good (rows (h .m) (h .k) (h .m) bytes) _ P rest e in
+    let b = then-good (wordRecords AW 0 47 (h .k) (h .m) (a .1)) _ P rest (a .3) in
+    let d = then-good (wordRecords CW 1 93 (h .k) (h .c) (b .1)) _ P rest (b .3) in
+    let f = then-good (mapRecord (h .m) (h .n) (d .1)) _ P rest (d .3) in
+    ended (a .0) (a .1) (b .0) (b .1) (d .0) (d .1) (f .0) (f .1) (a .2) (b .2) (d .2) (f .2) (f .3)
+  where
+    ended : (model r₁ : List ℕ) (reaching : List Word) (r₂ : List ℕ) (columns : List Word) (r₃ states r₄ : List ℕ)
+        → rows (h .m) (h .k) (h .m) bytes ≡ good model r₁ → wordRecords AW 0 47 (h .k) (h .m) r₁ ≡ good reaching r₂ → wordRecords CW 1 93 (h .k) (h .c) r₂ ≡ good columns r₃
+        → mapRecord (h .m) (h .n) r₃ ≡ good states r₄
+        → andThen (atEnd r₄) (λ u. pure (record { m = h .m; k = h .k; n = h .n; c = h .c; model = model; reaching = reaching; columns = columns; stateMap = states })) ≡ good P rest → Parts h bytes P rest
+    ended model r₁ reaching r₂ columns r₃ states [] a b d f g =
+        let is = ap (valueOr P) g in
+        record {
+          after-model = r₁;
+          after-reaching = r₂;
+          after-columns = r₃;
+          model = subst (λ (Q : Proof). rows (Q .m) (Q .k) (Q .m) bytes ≡ good (Q .model) r₁) is a;
+          reaching = subst (λ (Q : Proof). wordRecords AW 0 47 (Q .k) (Q .m) r₁ ≡ good (Q .reaching) r₂) is b;
+          columns = subst (λ (Q : Proof). wordRecords CW 1 93 (Q .k) (Q .c) r₂ ≡ good (Q .columns) r₃) is d;
+          states = subst (λ (Q : Proof). mapRecord (Q .m) (Q .n) r₃ ≡ good (Q .stateMap) []) is f;
+          end = cc;
+          said = ap (λ (Q : Proof). counts (Q .m) (Q .k) (Q .n) (Q .c)) (sym is);
+        }
+    ended model r₁ reaching r₂ columns r₃ states (x ∷ r₄) a b d f g = absurd (bad-good g)
+
+-- as the code goes through it: each step refused, bytes left over, and the end
+module _ (h : Counts) (bytes : List ℕ) where
+  pub body-model : (x : ℕ) → outcome (rows (h .m) (h .k) (h .m) (drop 6 bytes)) ≡ refused x → after bytes (body h (drop 6 bytes)) ≡ refused x
+  unfolding body
+  body-model x e = rw (came-bad (rows (h .m) (h .k) (h .m) (drop 6 bytes)) x e)
+
+  module _ (start : ℕ) (model : Went (rows (h .m) (h .k) (h .m) (drop 6 bytes)) bytes start) where
+    pub body-reaching : (x : ℕ) → after bytes (wordRecords AW 0 47 (h .k) (h .m) (drop start bytes)) ≡ refused x → after bytes (body h (drop 6 bytes)) ≡ refused x
+    unfolding body
+    body-reaching x e = rw (model .is, after-bad (wordRecords AW 0 47 (h .k) (h .m) (drop start bytes)) bytes x e)
+
+    module _ (next : ℕ) (reaching : Went (wordRecords AW 0 47 (h .k) (h .m) (drop start bytes)) bytes next) where
+      pub body-columns : (x : ℕ) → after bytes (wordRecords CW 1 93 (h .k) (h .c) (drop next bytes)) ≡ refused x → after bytes (body h (drop 6 bytes)) ≡ refused x
+      unfolding body
+      body-columns x e = rw (model .is, reaching .is, after-bad (wordRecords CW 1 93 (h .k) (h .c) (drop next bytes)) bytes x e)
+
+      module _ (last : ℕ) (columns : Went (wordRecords CW 1 93 (h .k) (h .c) (drop next bytes)) bytes last) where
+        pub body-map : (x : ℕ) → after bytes (mapRecord (h .m) (h .n) (drop last bytes)) ≡ refused x → after bytes (body h (drop 6 bytes)) ≡ refused x
+        unfolding body
+        body-map x e = rw (model .is, reaching .is, columns .is, after-bad (mapRecord (h .m) (h .n) (drop last bytes)) bytes x e)
+
+        module _ (end : ℕ) (states : Went (mapRecord (h .m) (h .n) (drop last bytes)) bytes end) where
+          pub body-left-over : end < length bytes → after bytes (body h (drop 6 bytes)) ≡ refused 5
+          unfolding body
+          body-left-over l = rw (model .is, reaching .is, columns .is, states .is, drop-cons bytes end 0 l)
+
+          pub body-end : length bytes ≤ end → after bytes (body h (drop 6 bytes)) ≡ gives end
+          unfolding body
+          body-end l =
+              let none : drop end bytes ≡ [] = drop-of-length-le bytes {i = end} l in
+              let w = states .within in
+              rw (model .is, reaching .is, columns .is, states .is, none) (ap gives (omega arith))
+
+-- ---- the whole sheet
+pub read-header : (bytes : List ℕ) (x : ℕ) → outcome (header bytes) ≡ refused x → readProof bytes ≡ refused x
+unfolding readProof
+read-header bytes x e = ap countsOf (sheet-parts bytes ∙ ap (λ (p : Parsed Counts). andThen p body) (came-bad (header bytes) x e))
+
+module _ (bytes : List ℕ) (head : Headed bytes) where
+  sheet-body : proofSheet bytes ≡ body (countsAt bytes) (drop 6 bytes)
+  sheet-body = sheet-parts bytes ∙ ap (λ (p : Parsed Counts). andThen p body) (head .is)
+
+  pub read-body : (x : ℕ) → after bytes (body (countsAt bytes) (drop 6 bytes)) ≡ refused x → readProof bytes ≡ refused x
+  unfolding readProof
+  read-body x e = ap countsOf (sheet-body ∙ after-bad (body (countsAt bytes) (drop 6 bytes)) bytes x e)
+
+  pub read-counts : (end : ℕ) → after bytes (body (countsAt bytes) (drop 6 bytes)) ≡ gives end → readProof bytes ≡ gives (countsAt bytes)
+  unfolding readProof
+  read-counts end e = ap countsOf sheet-body ∙ whole (body (countsAt bytes) (drop 6 bytes)) refl e
+    where
+      whole : (p : Parsed Proof) → body (countsAt bytes) (drop 6 bytes) ≡ p → after bytes p ≡ gives end → countsOf p ≡ gives (countsAt bytes)
+      whole (bad x) g e = absurd (clash e)
+      whole (good P rest) g e = ap gives (parts (countsAt bytes) (drop 6 bytes) P rest g .said)

@@ -5,7 +5,7 @@ use mathlib.Core.List.{List, [], _∷_, _++_, append-assoc}
 use Prim.Native.Nat.{ℕ, zero, suc, _+_, _*_, _-_, _≤_, _<_}
 use native.Mathlib.Nat.{not-suc-le-zero, le-of-suc-le-suc}
 use native.Mathlib.Omega.{arith}
-use lib.ListN.{length, getD, take, drop, length-append, length-drop, length-take, take-append-drop}
+use lib.ListN.{length, getD, take, drop, length-append, length-drop, length-take, take-append-drop, drop-of-length-le}
 use lib.Seq.{drop-cons, drop-drop, take-at, drop-at, getD-drop, length-take-le, take-length, take-append-seam, drop-append-seam}
 use lib.Dec.{eqb, ltb, leb}
 use Rattle.rules.specs.Tests.{eqs, eqs-same, leb-yes, le-yes}
@@ -176,15 +176,35 @@ module _ (x y : ℕ) (bytes : List ℕ) where
         within = omega (arith, next, p .within);
       }
 
-  -- the record number j
-  pub record-lies : (words : List Word) (rest : List ℕ) (at j : ℕ) → at ≤ length bytes → drop at bytes ≡ wordsBytes (x ∷ y ∷ []) words ++ rest → j < length words
-      → Lies (x ∷ y ∷ []) (getD words j []) bytes (recordPlace bytes at j)
-  unfolding wordsBytes
-  record-lies words rest at j low e h =
-      let p = passed words rest at j low e (omega arith) in
-      lies (getD words j []) (wordsBytes (x ∷ y ∷ []) (drop (suc j) words) ++ rest) (recordPlace bytes at j)
-      (p .left ∙ ap (λ (l : List Word). wordsBytes (x ∷ y ∷ []) l ++ rest) (drop-cons words j [] h)
-      ∙ append-assoc (wordBytes (x ∷ y ∷ []) (getD words j [])) (wordsBytes (x ∷ y ∷ []) (drop (suc j) words)) rest)
+-- the place of the record number j, by the words before it
+abbrev pub placeOf : List ℕ → ℕ → List Word → ℕ → ℕ
+placeOf due at words j = at + length (wordsBytes due (take j words))
+
+-- all records of a list of words that stands at a place
+pub record Records (due : List ℕ) (bytes : List ℕ) (words : List Word) (at count : ℕ) (rest : List ℕ) : Type 0 where
+  pub places : (j : ℕ) → j ≤ count → (recordPlace bytes at j ≡ placeOf due at words j) × (placeOf due at words j ≤ length bytes)
+  pub lie : (j : ℕ) → j < count → Lies due (getD words j []) bytes (placeOf due at words j)
+  pub left : drop (placeOf due at words count) bytes ≡ rest
+
+pub records : (x y : ℕ) (bytes : List ℕ) (words : List Word) (at count : ℕ) (rest : List ℕ) → at ≤ length bytes → drop at bytes ≡ wordsBytes (x ∷ y ∷ []) words ++ rest → length words ≡ count
+    → Records (x ∷ y ∷ []) bytes words at count rest
+unfolding wordsBytes
+records x y bytes words at count rest low e many =
+    let due : List ℕ = x ∷ y ∷ [] in
+    let p : (j : ℕ) → j ≤ count → Passed due bytes words rest at j = λ j h. passed x y bytes words rest at j low e (omega arith) in
+    let none : drop count words ≡ [] = drop-of-length-le words {i = count} (omega arith) in
+    record {
+      places = λ j h. (p j h .place, omega (arith, p j h .place, p j h .within));
+      lie = λ j h.
+          let q = p j (omega arith) in
+          subst (Lies due (getD words j []) bytes) (q .place)
+          (lies x y bytes (getD words j []) (wordsBytes due (drop (suc j) words) ++ rest) (recordPlace bytes at j)
+          (q .left ∙ ap (λ (l : List Word). wordsBytes due l ++ rest) (drop-cons words j [] (omega arith))
+          ∙ append-assoc (wordBytes due (getD words j [])) (wordsBytes due (drop (suc j) words)) rest));
+      left =
+          let q = p count (omega arith) in
+          ap (λ (i : ℕ). drop i bytes) (sym (q .place)) ∙ q .left ∙ ap (λ (l : List Word). wordsBytes due l ++ rest) none;
+    }
 
 -- ---- one record after the other, as the code passes them
 pub place-more : (bytes : List ℕ) (at j : ℕ) → at ≤ recordPlace bytes at j
@@ -196,6 +216,10 @@ pub place-next : (bytes : List ℕ) (at left : ℕ) → 0 < left → recordPlace
 unfolding recordPlace
 place-next bytes at zero h = absurd (omega arith)
 place-next bytes at (suc left) h = let m : suc left - 1 ≡ left = omega arith in rw m
+
+-- a record that is passed lies within what the last one lies within
+pub place-within : (bytes : List ℕ) (at left n : ℕ) → 0 < left → recordPlace bytes at left ≤ n → at + (3 + getD bytes (at + 2) 0) ≤ n
+place-within bytes at left n h l = omega (arith, place-next bytes at left h, place-more bytes (at + (3 + getD bytes (at + 2) 0)) (left - 1))
 
 pub place-end : (bytes : List ℕ) (at : ℕ) → recordPlace bytes at 0 ≡ at
 unfolding recordPlace

@@ -1,0 +1,154 @@
+-- Where the parts of a proof sheet lie: the model's rows from 6 on, then the records of the reaching words, those of the columns, and the
+-- state map.
+use mathlib.Core.Path.{_≡_, refl, sym, ap, ap₂, _∙_, subst}
+use mathlib.Core.Bool.{Bool, true, false}
+use mathlib.Core.List.{List, [], _∷_, _++_, append-assoc, append-nil}
+use Prim.Native.Nat.{ℕ, zero, suc, _+_, _*_, _-_, _≤_, _<_}
+use native.Mathlib.Omega.{arith}
+use lib.ListN.{length, getD, take, drop, length-append, length-drop}
+use lib.Seq.{drop-drop}
+use lib.Dec.{ltb}
+use borrow.Author.Tests.{lt-ltb, le-ltb}
+use Rattle.rules.specs.Words.{Word}
+use Rattle.rules.specs.Answer.{Answer, refused, gives}
+use Rattle.rules.specs.Sheets.{AW, CW, SM, Proof, wordBytes, wordsBytes}
+use Rattle.sheets.specs.Reading.{Parsed, bad, good, andThen, rows}
+use Rattle.sheets.specs.Proofs.{proofSheet, Counts, countsOf, readProof, recordOf, awRecord}
+use Rattle.sheets.specs.Steps.{then-good, rows-were}
+use Rattle.sheets.specs.WordRecords.{words-were, recordPlace, placeOf, Lies, Records, records}
+use Rattle.sheets.specs.ProofSteps.{clash, counts, InRange, header, body, sheet-parts, countsAt, Headed, headed, Parts, parts, map-were}
+
+-- the record of the word that reaches state j
+unfoldable pub reachingPlace : Proof → ℕ → ℕ
+unfolding wordsBytes
+reachingPlace P j = placeOf AW (6 + P .m * (2 + 2 * P .k)) (P .reaching) j
+
+-- the record of column j
+unfoldable pub columnPlace : Proof → ℕ → ℕ
+unfolding reachingPlace
+columnPlace P j = placeOf CW (reachingPlace P (P .m)) (P .columns) j
+
+-- the mark of the state map, with its n bytes after it
+unfoldable pub mapPlace : Proof → ℕ
+unfolding columnPlace
+mapPlace P = columnPlace P (P .c)
+
+-- where the AW record of a state lies in a sheet; 0, with no bytes, for a sheet that is refused or a state not below m
+abbrev pub placeIn : Parsed Proof → ℕ → ℕ
+placeIn (bad number) state = 0
+placeIn (good P rest) state = elim (ltb state (P .m)) [ false ↦ 0 | true ↦ reachingPlace P state ]
+
+unfoldable pub awPlace : List ℕ → ℕ → ℕ
+unfolding proofSheet reachingPlace
+awPlace bytes state = placeIn (proofSheet bytes) state
+
+-- ---- a sheet that was read
+-- its header, its parts, and their bytes after the model's rows
+pub record Laid (bytes : List ℕ) (P : Proof) (rest : List ℕ) : Type 0 where
+  pub head : Headed bytes
+  pub read : Parts (countsAt bytes) (drop 6 bytes) P rest
+  pub start : 6 + P .m * (2 + 2 * P .k) ≤ length bytes
+  pub records : drop (6 + P .m * (2 + 2 * P .k)) bytes ≡ wordsBytes AW (P .reaching) ++ (wordsBytes CW (P .columns) ++ (SM ++ P .stateMap))
+  pub reaching-many : length (P .reaching) ≡ P .m
+  pub columns-many : length (P .columns) ≡ P .c
+  pub states-many : length (P .stateMap) ≡ P .n
+
+pub laid : (bytes : List ℕ) (P : Proof) (rest : List ℕ) → proofSheet bytes ≡ good P rest → Laid bytes P rest
+laid bytes P rest e =
+    let a = then-good (header bytes) body P rest (sym (sheet-parts bytes) ∙ e) in
+    let h = headed bytes (a .0) (a .1) (a .2) in
+    let p = parts (countsAt bytes) (drop 6 bytes) P rest (sym (ap (λ (p : Parsed Counts). andThen p body) (h .is)) ∙ sym (sheet-parts bytes) ∙ e) in
+    let r = rows-were (P .m) (P .k) (P .m) (drop 6 bytes) (P .model) (p .after-model) (p .model) in
+    let w = words-were AW 0 47 (P .k) (P .m) (p .after-model) (P .reaching) (p .after-reaching) (p .reaching) in
+    let v = words-were CW 1 93 (P .k) (P .c) (p .after-reaching) (P .columns) (p .after-columns) (p .columns) in
+    let s = map-were (P .m) (P .n) (p .after-columns) (P .stateMap) [] (p .states) in
+    record {
+      head = h;
+      read = p;
+      start = omega (arith, r .within, h .within, length-drop 6 bytes);
+      records =
+          sym (drop-drop (P .m * (2 + 2 * P .k)) 6 bytes) ∙ sym (r .after) ∙ w .0
+          ∙ ap (λ (l : List ℕ). wordsBytes AW (P .reaching) ++ l) (v .0 ∙ ap (λ (l : List ℕ). wordsBytes CW (P .columns) ++ l) (s .0 ∙ ap (λ (l : List ℕ). SM ++ l) (append-nil (P .stateMap))));
+      reaching-many = w .1;
+      columns-many = v .1;
+      states-many = s .1;
+    }
+
+module _ (bytes : List ℕ) (P : Proof) (rest : List ℕ) (e : proofSheet bytes ≡ good P rest) where
+  -- the records of the reaching words: `recordPlace` from 6 + m·(2 + 2k) on, and what lies there
+  pub reaching-records : Records AW bytes (P .reaching) (6 + P .m * (2 + 2 * P .k)) (P .m) (wordsBytes CW (P .columns) ++ (SM ++ P .stateMap))
+  reaching-records =
+      let l = laid bytes P rest e in
+      records 0x41 0x57 bytes (P .reaching) (6 + P .m * (2 + 2 * P .k)) (P .m) (wordsBytes CW (P .columns) ++ (SM ++ P .stateMap)) (l .start) (l .records) (l .reaching-many)
+
+  -- after them those of the columns
+  pub column-records : Records CW bytes (P .columns) (reachingPlace P (P .m)) (P .c) (SM ++ P .stateMap)
+  unfolding reachingPlace
+  column-records =
+      let r = reaching-records in
+      records 0x43 0x57 bytes (P .columns) (reachingPlace P (P .m)) (P .c) (SM ++ P .stateMap) (r .places (P .m) (omega arith) .1) (r .left) (laid bytes P rest e .columns-many)
+
+  -- after them the state map, to the end of the sheet
+  pub map-lies : drop (mapPlace P) bytes ≡ SM ++ P .stateMap
+  unfolding mapPlace
+  map-lies = column-records .left
+
+-- ---- the AW record of a state, as the code finds it
+-- a sheet that is not refused says something
+pub read-good : (bytes : List ℕ) (h : Counts) → readProof bytes ≡ gives h → (P : Proof) × (rest : List ℕ) × (proofSheet bytes ≡ good P rest) × (counts (P .m) (P .k) (P .n) (P .c) ≡ h)
+unfolding readProof
+read-good bytes h e = go (proofSheet bytes) refl e
+  where
+    go : (p : Parsed Proof) → proofSheet bytes ≡ p → countsOf p ≡ gives h → (P : Proof) × (rest : List ℕ) × (proofSheet bytes ≡ good P rest) × (counts (P .m) (P .k) (P .n) (P .c) ≡ h)
+    go (bad x) g e = absurd (clash e)
+    go (good P rest) g e = (P, rest, g, cc)
+
+pub aw-refused : (bytes : List ℕ) (state x : ℕ) → readProof bytes ≡ refused x → (awRecord bytes state ≡ []) × (awPlace bytes state ≡ 0)
+unfolding readProof awRecord awPlace
+aw-refused bytes state x e = go (proofSheet bytes) e
+  where
+    go : (p : Parsed Proof) → countsOf p ≡ refused x → (recordOf p state ≡ []) × (placeIn p state ≡ 0)
+    go (bad y) e = (refl, refl)
+    go (good P rest) e = absurd (clash (sym e))
+
+-- the record of a state below m
+pub record AwLies (bytes : List ℕ) (h : Counts) (state place : ℕ) : Type 0 where
+  pub is : recordPlace bytes (6 + h .m * (2 + 2 * h .k)) state ≡ place
+  pub within : place + (3 + getD bytes (place + 2) 0) ≤ length bytes
+  pub part : take (3 + getD bytes (place + 2) 0) (drop place bytes) ≡ awRecord bytes state
+
+module _ (bytes : List ℕ) (h : Counts) (state : ℕ) (e : readProof bytes ≡ gives h) where
+  pub read-in-range : InRange h
+  read-in-range =
+      let g = read-good bytes h e in
+      let l = laid bytes (g .0) (g .1) (g .2) in
+      subst InRange (sym (l .read .said) ∙ g .3) (l .head .ranges)
+
+  pub aw-none : h .m ≤ state → (awRecord bytes state ≡ []) × (awPlace bytes state ≡ 0)
+  unfolding awRecord awPlace
+  aw-none l =
+      let g = read-good bytes h e in
+      let m : g .0 .m ≡ h .m = ap (λ (h : Counts). h .m) (g .3) in
+      let t = le-ltb state (g .0 .m) (omega arith) in
+      (ap (λ (p : Parsed Proof). recordOf p state) (g .2) ∙ rw (t, recordOf) refl, ap (λ (p : Parsed Proof). placeIn p state) (g .2) ∙ rw (t, placeIn) refl)
+
+  pub aw-lies : state < h .m → AwLies bytes h state (awPlace bytes state)
+  unfolding awRecord awPlace reachingPlace
+  aw-lies l =
+      let g = read-good bytes h e in
+      found (g .0) (g .1) (g .2) (g .3)
+    where
+      found : (P : Proof) (rest : List ℕ) → proofSheet bytes ≡ good P rest → counts (P .m) (P .k) (P .n) (P .c) ≡ h → AwLies bytes h state (awPlace bytes state)
+      found P rest g c =
+          let m : P .m ≡ h .m = ap (λ (h : Counts). h .m) c in
+          let t : ltb state (P .m) ≡ true = lt-ltb state (P .m) (omega arith) in
+          let r = reaching-records bytes P rest g in
+          let i = r .lie state (omega arith) in
+          let there : awPlace bytes state ≡ reachingPlace P state = ap (λ (p : Parsed Proof). placeIn p state) g ∙ rw (t, placeIn) refl in
+          let whole : awRecord bytes state ≡ wordBytes AW (getD (P .reaching) state []) = ap (λ (p : Parsed Proof). recordOf p state) g ∙ rw (t, recordOf) refl in
+          let start : h .m * (2 + 2 * h .k) ≡ P .m * (2 + 2 * P .k) = ap (λ (h : Counts). h .m * (2 + 2 * h .k)) (sym c) in
+          rw there (record {
+            is = rw start (r .places state (omega arith) .0);
+            within = rw (i .size) (i .within);
+            part = rw (i .size) (i .whole ∙ sym whole);
+          })
