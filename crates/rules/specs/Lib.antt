@@ -21,4 +21,5 @@ pub mod Lengths
 pub mod NumberingLaws
 pub mod DifferenceLaws
 pub mod Links
+pub mod ByHand
 pub mod SheetLaws
