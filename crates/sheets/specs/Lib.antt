@@ -4,6 +4,7 @@ pub mod Steps
 pub mod Machines
 pub mod MachineSteps
 pub mod MachineAnswers
+pub mod MachineLaws
 pub mod Proofs
 pub mod Checker
 pub mod Cases

@@ -128,7 +128,7 @@ sheet-sized bytes e =
     let s = sheet-were bytes (g .1) (g .0) (g .2) in
     rw (s .n-is, s .k-is) (s .long, words-most (g .0 .n) (g .0 .k) (within-both 1 48 (g .0 .n) (s .n-within) .1) (within-both 1 12 (g .0 .k) (s .k-within) .1))
 
--- ---- the operations: refused; an area too small; what they leave
+-- ---- the operations: refused; an area too small; what they leave, by the definitions and by the places of the bytes
 module _ (bytes area : List ℕ) where
   pub read-refused : (x : ℕ) → outcome (machineSheet bytes) ≡ refused x → readMachine bytes area ≡ record { answer = refused x; area = area }
   unfolding readMachine
@@ -138,16 +138,20 @@ module _ (bytes area : List ℕ) where
   unfolding readMachine
   read-small e h = let g = came-good (machineSheet bytes) e in rw (g .2, lt-leb 576 (length area) h, readLeaves)
 
+  pub read-leaves : (s : Sheet) (rest : List ℕ) → machineSheet bytes ≡ good s rest → 576 ≤ length area
+      → readMachine bytes area ≡ record { answer = gives (record { n = s .n; k = s .k }); area = over (s .words) area }
+  unfolding readMachine
+  read-leaves s rest e h = rw (e, le-leb 576 (length area) h, readLeaves)
+
   pub read-done : outcome (machineSheet bytes) ≡ gives tt → 576 ≤ length area
       → readMachine bytes area ≡ record {
         answer = gives (record { n = getD bytes 2 0; k = getD bytes 3 0 });
         area = put 0 (rowWords (getD bytes 3 0) (getD bytes 2 0) (drop 4 bytes)) area;
       }
-  unfolding readMachine
   read-done e h =
       let g = came-good (machineSheet bytes) e in
       let s = sheet-were bytes (g .1) (g .0) (g .2) in
-      rw (g .2, le-leb 576 (length area) h, readLeaves, s .n-is, s .k-is, sym (s .rows .is), put-start)
+      rw (s .n-is, s .k-is, sym (s .rows .is), put-start) (read-leaves (g .0) (g .1) (g .2) h)
 
 module _ (n k : ℕ) (words area : List ℕ) where
   pub write-refused : (x : ℕ) → lentCheck n k words ≡ refused x → writeMachine n k words area ≡ record { answer = refused x; area = area }
@@ -158,9 +162,13 @@ module _ (n k : ℕ) (words area : List ℕ) where
   unfolding writeMachine
   write-small e h = rw (e, lt-leb 1252 (length area) h, writeLeaves)
 
+  pub write-leaves : lentCheck n k words ≡ gives tt → 1252 ≤ length area
+      → writeMachine n k words area ≡ record { answer = gives (length (machineBytes n k words)); area = over (machineBytes n k words) area }
+  unfolding writeMachine
+  write-leaves e h = rw (e, le-leb 1252 (length area) h, writeLeaves)
+
   pub write-done : lentCheck n k words ≡ gives tt → 1252 ≤ length area
       → writeMachine n k words area ≡ record { answer = gives (4 + n * (2 + 2 * k)); area = put 0 (machineBytes n k words) area }
-  unfolding writeMachine
   write-done e h =
       let l : length (machineBytes n k words) ≡ 4 + n * (2 + 2 * k) = machine-length n k words (omega (arith, lent-sound n k words e .long)) in
-      rw (put-start, sym l, e, le-leb 1252 (length area) h, writeLeaves)
+      rw (put-start, sym l) (write-leaves e h)
