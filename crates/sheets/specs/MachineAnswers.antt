@@ -1,5 +1,5 @@
 -- The answers of machine sheets in the paper's terms, and that the promises fix them with the area: two that meet one promise are equal.
-use mathlib.Core.Path.{_≡_, refl, sym, ap, _∙_}
+use mathlib.Core.Path.{_≡_, sym, ap, _∙_}
 use mathlib.Core.List.{List}
 use Prim.Native.Nat.{ℕ}
 use native.Mathlib.Omega.{arith}

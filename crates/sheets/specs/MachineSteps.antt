@@ -1,24 +1,24 @@
 -- A machine sheet step by step, as the code goes through it.
 use mathlib.Core.Path.{_≡_, refl, sym, ap, ap₂, _∙_, subst}
-use mathlib.Core.Bool.{Bool, true, false, _&&_}
+use mathlib.Core.Bool.{true}
 use mathlib.Core.List.{List, [], _∷_, _++_}
-use Prim.Native.Nat.{ℕ, zero, suc, _+_, _*_, _≤_, _<_}
+use Prim.Native.Nat.{ℕ, suc, _+_, _*_, _≤_, _<_}
 use native.Mathlib.Omega.{arith}
 use lib.ListN.{length, getD, drop, length-drop, drop-of-length-le, take-append-drop}
 use lib.Seq.{drop-cons}
 use lib.Dec.{leb}
 use borrow.Author.Tests.{le-leb, lt-leb}
 use Rattle.rules.specs.Tests.{leb-yes}
-use Rattle.rules.specs.Answer.{Answer, refused, gives, within}
+use Rattle.rules.specs.Answer.{refused, gives, within}
 use Rattle.rules.specs.Areas.{over, put, put-start}
 use Rattle.rules.specs.Sheets.{MH, rowBytes, machineBytes}
 use Rattle.rules.specs.SheetLaws.{machine-length, words-most}
-use Rattle.machine.specs.Lent.{lentCheck, Sound}
+use Rattle.machine.specs.Lent.{lentCheck}
 use Rattle.machine.specs.LentLaws.{lent-sound, within-both}
-use Rattle.sheets.specs.Reading.{Parsed, bad, good, Reader, pure, andThen, _>>=_, _>>_, demand, present, byte, atEnd, mark, rows}
+use Rattle.sheets.specs.Reading.{Parsed, good, Reader, pure, _>>=_, _>>_, demand, present, byte, atEnd, mark, rows}
 use Rattle.sheets.specs.Standing.{rowWords}
 use Rattle.sheets.specs.Steps.{outcome, bad-good, came-good, came-bad, then-good, demanded, two, mark-were, mark-took, Read, rows-were, rows-took}
-use Rattle.sheets.specs.Machines.{Sheet, Size, Left, machineSheet, readLeaves, readMachine, writeLeaves, writeMachine}
+use Rattle.sheets.specs.Machines.{Sheet, machineSheet, readLeaves, readMachine, writeLeaves, writeMachine}
 
 -- what stands after MH, n and k
 unfoldable pub sheetBody : ℕ → ℕ → Reader Sheet

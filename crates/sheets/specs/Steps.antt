@@ -4,7 +4,6 @@ use mathlib.Core.Bool.{Bool, true, false, _&&_}
 use mathlib.Core.List.{List, [], _∷_, _++_, append-assoc}
 use Prim.Native.Nat.{ℕ, zero, suc, _+_, _*_, _-_, _/_, _%_, _≤_, _<_}
 use native.Mathlib.Nat.{suc-mul, zero-mul, zero-add}
-use native.Mathlib.Numerals.{add-one}
 use native.Mathlib.Omega.{arith}
 use lib.ListN.{length, getD, take, drop, length-append, length-drop, take-append-drop}
 use lib.Seq.{drop-cons, drop-drop, take-at, drop-at}
@@ -16,7 +15,7 @@ use Rattle.machine.specs.Lent.{nextBelow, allPass}
 use Rattle.rules.specs.Answer.{Answer, refused, gives}
 use Rattle.rules.specs.Sheets.{MR, pairBytes, rowBytes}
 use Rattle.sheets.specs.Standing.{pairWords, rowWords}
-use Rattle.sheets.specs.Reading.{Parsed, bad, good, Reader, pure, andThen, _>>=_, _>>_, demand, present, byte, grab, mark, pairs, rows}
+use Rattle.sheets.specs.Reading.{Parsed, bad, good, Reader, pure, andThen, _>>=_, _>>_, demand, present, mark, pairs, rows}
 
 -- what a step comes to: its refusal, or that it came out good
 abbrev pub outcome : {A : Type 0} → Parsed A → Answer (Unit {0})

@@ -7,15 +7,11 @@ use Rattle.sheets.specs.Reading.{rows}
 use Rattle.sheets.specs.Steps.{outcome}
 use Rattle.sheets.specs.MachineSteps.{sheetBody, body-refused, body-left-over, body-sound}
 use native.Mathlib.Omega.{arith}
-use mathlib.Core.Path.{_≡_, refl, sym, ap, _∙_}
-use Prim.Native.Nat.{ℕ, _+_, _*_, _-_, _/_, _%_, _<_, _≤_}
-use lib.ListN.{length, getD, take, drop, set}
+use mathlib.Core.Path.{_≡_, sym, ap, _∙_}
+use lib.ListN.{drop}
 use borrow.Author.Needs.{needs}
 use Rattle.sheets.proofs.machines.body_check.Statement.{statement}
 use Rattle.sheets.proofs.machines.body_check.Tie as tie
-use Rattle.sheets.proofs.machines.body_check.Reads as reads
-use Rattle.sheets.proofs.machines.body_check.Lts as lts
-use Rattle.sheets.proofs.reading.rows_check.Reads as rows-check-reads
 
 -- n and k are in their ranges
 n-within : (c : tie.Else4) → within 1 48 (c .before .before .before .before .before .args .n) ≡ true
@@ -69,10 +65,10 @@ add-if5-2 : tie.Need-add-if5-2
 add-if5-2 c = let a = c .before .before .before .before .before .before .before .before .args in let m = rows-most (a .n) (a .k) (search needs) (search needs) in search needs
 
 returns-6 : tie.Need-returns-6
-returns-6 c = let a = c .before .before .before .before .before .before .before .before .before .args in sym (body-left-over (a .bytes .now) (a .n) (a .k) (c .before .before .before .before .before .before .before .before .before .pre) (n-within (c .before .before .before .before)) (k-within (c .before .before .before .before)) (passed (c .before)) (c .if5 .taken))
+returns-6 c = let a = c .before .before .before .before .before .before .before .before .before .args in sym (body-left-over (a .bytes .now) (a .n) (a .k) (c .before .before .before .before .before .before .before .before .before .pre) (n-within (c .before .before .before .before)) (k-within (c .before .before .before .before)) (passed (c .before)) (omega arith))
 
 returns-7 : tie.Need-returns-7
-returns-7 c = let a = c .before .before .before .before .before .before .before .before .before .args in sym (body-sound (a .bytes .now) (a .n) (a .k) (c .before .before .before .before .before .before .before .before .before .pre) (n-within (c .before .before .before .before)) (k-within (c .before .before .before .before)) (passed (c .before)) (c .if5 .left))
+returns-7 c = let a = c .before .before .before .before .before .before .before .before .before .args in sym (body-sound (a .bytes .now) (a .n) (a .k) (c .before .before .before .before .before .before .before .before .before .pre) (n-within (c .before .before .before .before)) (k-within (c .before .before .before .before)) (passed (c .before)) (omega arith))
 
 pub body-check-spec : {M : Type 1} → statement M
 body-check-spec =

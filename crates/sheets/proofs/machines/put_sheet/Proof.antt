@@ -5,16 +5,12 @@ use Rattle.rules.specs.Sheets.{rowBytes}
 use Rattle.rules.specs.SheetLaws.{rows-most, put-machine}
 use Rattle.machine.specs.Lent.{Sound}
 use native.Mathlib.Omega.{arith}
-use mathlib.Core.Path.{_≡_, refl, sym, ap, _∙_}
-use Prim.Native.Nat.{ℕ, _+_, _*_, _-_, _/_, _%_, _<_, _≤_}
-use lib.ListN.{length, getD, take, drop, set}
+use mathlib.Core.Path.{ap, _∙_}
+use Prim.Native.Nat.{ℕ, _+_, _*_, _≤_}
+use lib.ListN.{length, set}
 use borrow.Author.Needs.{needs}
 use Rattle.sheets.proofs.machines.put_sheet.Statement.{statement}
 use Rattle.sheets.proofs.machines.put_sheet.Tie as tie
-use Rattle.sheets.proofs.machines.put_sheet.Reads as reads
-use Rattle.sheets.proofs.machines.put_sheet.Lts as lts
-use Rattle.learning.proofs.records.put_mark.Reads as put-mark-reads
-use Rattle.learning.proofs.records.put_rows.Reads as put-rows-reads
 
 -- the rows fit, and their words are there
 room : (c : tie.After-slice-known2) → let a = c .before .before .before .before .before .before .before .args in (a .n * (2 + 2 * a .k) ≤ 1248) × (a .n * a .k ≤ length (a .words .now))

@@ -4,17 +4,10 @@ use Rattle.sheets.specs.Steps.{outcome}
 use Rattle.sheets.specs.Machines.{machineSheet}
 use Rattle.sheets.specs.MachineSteps.{sheet-sized, read-refused, read-small, read-done}
 use native.Mathlib.Omega.{arith}
-use mathlib.Core.Path.{_≡_, refl, sym, ap, _∙_}
-use Prim.Native.Nat.{ℕ, _+_, _*_, _-_, _/_, _%_, _<_, _≤_}
-use lib.ListN.{length, getD, take, drop, set}
+use mathlib.Core.Path.{_≡_, sym, ap, _∙_}
 use borrow.Author.Needs.{needs}
 use Rattle.sheets.proofs.machines.read.Statement.{statement}
 use Rattle.sheets.proofs.machines.read.Tie as tie
-use Rattle.sheets.proofs.machines.read.Reads as reads
-use Rattle.sheets.proofs.machines.read.Lts as lts
-use Rattle.machine.proofs.wide.Reads as wide-reads
-use Rattle.sheets.proofs.machines.set_rows.Reads as set-rows-reads
-use Rattle.sheets.proofs.machines.sheet_check.Reads as sheet-check-reads
 
 -- the sheet came out good
 sound : (c : tie.After-enum-told) → outcome (machineSheet (c .before .before .before .before .before .args .bytes .now)) ≡ gives tt
@@ -33,7 +26,7 @@ enum-told : tie.Need-enum-told
 enum-told c = search needs
 
 returns-2 : tie.Need-returns-2
-returns-2 c = let a = c .before .before .before .before .before .before .args in sym (read-small (a .bytes .now) (a .area .now) (sound (c .before)) (c .if1 .taken))
+returns-2 c = let a = c .before .before .before .before .before .before .args in sym (read-small (a .bytes .now) (a .area .now) (sound (c .before)) (omega arith))
 
 shared-slice-read-wide : tie.Need-shared-slice-read-wide
 shared-slice-read-wide c = let s = sheet-sized (c .before .before .before .before .before .before .before .args .bytes .now) (sound (c .before .before)) in search needs
@@ -54,7 +47,7 @@ same-length : tie.Need-same-length
 same-length c = search needs
 
 returns-3 : tie.Need-returns-3
-returns-3 c = let a = c .before .before .before .before .before .before .before .before .before .before .before .before .before .before .args in rw (c .before .before .set-rows .ensures, c .before .before .before .before .wide2 .ensures, c .before .before .before .before .before .before .wide .ensures) (sym (read-done (a .bytes .now) (a .area .now) (sound (c .before .before .before .before .before .before .before .before .before)) (c .before .before .before .before .before .before .before .before .if1 .left)))
+returns-3 c = let a = c .before .before .before .before .before .before .before .before .before .before .before .before .before .before .args in rw (c .before .before .set-rows .ensures, c .before .before .before .before .wide2 .ensures, c .before .before .before .before .before .before .wide .ensures) (sym (read-done (a .bytes .now) (a .area .now) (sound (c .before .before .before .before .before .before .before .before .before)) (omega arith)))
 
 pub read-spec : {M : Type 1} → statement M
 read-spec =

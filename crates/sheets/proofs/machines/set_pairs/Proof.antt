@@ -1,17 +1,13 @@
-use mathlib.Core.List.{List}
 use lib.ListN.{length-set}
 use Rattle.rules.specs.Areas.{put, put-none}
-use Rattle.sheets.specs.Standing.{pairWords, wordAt, set-pairs-more}
+use Rattle.sheets.specs.Standing.{pairWords, set-pairs-more}
 use borrow.Author.Needs.{needs}
 use native.Mathlib.Omega.{arith}
-use mathlib.Core.Path.{_≡_, refl, sym, ap, _∙_}
-use Prim.Native.Nat.{ℕ, _+_, _*_, _-_, _/_, _%_, _<_, _≤_}
-use lib.ListN.{length, getD, take, drop, set}
+use mathlib.Core.Path.{_≡_, refl, sym}
+use Prim.Native.Nat.{_-_, _≤_}
+use lib.ListN.{length, drop}
 use Rattle.sheets.proofs.machines.set_pairs.Statement.{statement}
 use Rattle.sheets.proofs.machines.set_pairs.Tie as tie
-use Rattle.sheets.proofs.machines.set_pairs.Reads as reads
-use Rattle.sheets.proofs.machines.set_pairs.Lts as lts
-use Rattle.sheets.proofs.machines.word_of.Reads as word-of-reads
 
 abbrev Inv-loop : tie.InvT-loop
 Inv-loop area₀ from bytes at k i₀ area i = (i ≤ k) × (length area ≡ length area₀) × (area ≡ put from (pairWords i (drop at bytes)) area₀)

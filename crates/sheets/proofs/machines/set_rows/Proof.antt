@@ -1,18 +1,14 @@
-use mathlib.Core.List.{List}
 use native.Mathlib.Nat.{suc-mul, zero-mul}
 use Rattle.rules.specs.Areas.{put, put-none}
 use Rattle.rules.specs.SheetLaws.{room}
 use Rattle.sheets.specs.Standing.{rowWords, set-rows-more}
 use borrow.Author.Needs.{needs}
 use native.Mathlib.Omega.{arith}
-use mathlib.Core.Path.{_≡_, refl, sym, ap, _∙_}
-use Prim.Native.Nat.{ℕ, _+_, _*_, _-_, _/_, _%_, _<_, _≤_}
-use lib.ListN.{length, getD, take, drop, set}
+use mathlib.Core.Path.{_≡_, refl, sym, _∙_}
+use Prim.Native.Nat.{_+_, _*_, _-_, _≤_}
+use lib.ListN.{length, drop}
 use Rattle.sheets.proofs.machines.set_rows.Statement.{statement}
 use Rattle.sheets.proofs.machines.set_rows.Tie as tie
-use Rattle.sheets.proofs.machines.set_rows.Reads as reads
-use Rattle.sheets.proofs.machines.set_rows.Lts as lts
-use Rattle.sheets.proofs.machines.set_pairs.Reads as set-pairs-reads
 
 abbrev Inv-loop : tie.InvT-loop
 Inv-loop area₀ bytes at k rows place₀ from₀ row₀ area place from row = (row ≤ rows) × (place ≡ at + row * (2 + 2 * k)) × (from ≡ row * k) × (length area ≡ length area₀) × (area ≡ put 0 (rowWords k row (drop at bytes)) area₀)

@@ -3,19 +3,11 @@ use Rattle.rules.specs.Sheets.{MH}
 use Rattle.machine.specs.Answers.{checked}
 use Rattle.sheets.specs.Reading.{mark}
 use Rattle.sheets.specs.Steps.{outcome}
-use Rattle.sheets.specs.MachineSteps.{sheetBody, head-refused, head-short, head-present}
-use native.Mathlib.Omega.{arith}
-use mathlib.Core.Path.{_≡_, refl, sym, ap, _∙_}
-use Prim.Native.Nat.{ℕ, _+_, _*_, _-_, _/_, _%_, _<_, _≤_}
-use lib.ListN.{length, getD, take, drop, set}
+use Rattle.sheets.specs.MachineSteps.{head-refused, head-short, head-present}
+use mathlib.Core.Path.{_≡_, sym, ap, _∙_}
 use borrow.Author.Needs.{needs}
 use Rattle.sheets.proofs.machines.sheet_check.Statement.{statement}
 use Rattle.sheets.proofs.machines.sheet_check.Tie as tie
-use Rattle.sheets.proofs.machines.sheet_check.Reads as reads
-use Rattle.sheets.proofs.machines.sheet_check.Lts as lts
-use Rattle.machine.proofs.wide.Reads as wide-reads
-use Rattle.sheets.proofs.machines.body_check.Reads as body-check-reads
-use Rattle.sheets.proofs.reading.mark_check.Reads as mark-check-reads
 
 -- the mark came out good
 marked : (c : tie.After-enum-told) → outcome (mark MH (c .before .before .before .before .before .args .bytes .now)) ≡ gives tt

@@ -3,19 +3,13 @@ use Rattle.rules.specs.SheetLaws.{rows-most}
 use Rattle.machine.specs.Answers.{checked}
 use Rattle.machine.specs.Lent.{lentCheck}
 use Rattle.machine.specs.LentLaws.{lent-sound}
-use Rattle.sheets.specs.Machines.{Left}
 use Rattle.sheets.specs.MachineSteps.{write-refused, write-small, write-done}
 use native.Mathlib.Omega.{arith}
-use mathlib.Core.Path.{_≡_, refl, sym, ap, _∙_}
-use Prim.Native.Nat.{ℕ, _+_, _*_, _-_, _/_, _%_, _<_, _≤_}
-use lib.ListN.{length, getD, take, drop, set}
+use mathlib.Core.Path.{_≡_, sym, ap, _∙_}
+use Prim.Native.Nat.{_+_, _*_, _≤_}
 use borrow.Author.Needs.{needs}
 use Rattle.sheets.proofs.machines.write.Statement.{statement}
 use Rattle.sheets.proofs.machines.write.Tie as tie
-use Rattle.sheets.proofs.machines.write.Reads as reads
-use Rattle.sheets.proofs.machines.write.Lts as lts
-use Rattle.machine.proofs.check.Reads as check-reads
-use Rattle.sheets.proofs.machines.put_sheet.Reads as put-sheet-reads
 
 -- the words passed
 sound : (c : tie.After-enum-told) → let a = c .before .before .before .before .before .args in lentCheck (a .n) (a .k) (a .words .now) ≡ gives tt
@@ -38,10 +32,10 @@ enum-told : tie.Need-enum-told
 enum-told c = search needs
 
 returns-2 : tie.Need-returns-2
-returns-2 c = let a = c .before .before .before .before .before .before .args in sym (write-small (a .n) (a .k) (a .words .now) (a .area .now) (sound (c .before)) (c .if1 .taken))
+returns-2 c = let a = c .before .before .before .before .before .before .args in sym (write-small (a .n) (a .k) (a .words .now) (a .area .now) (sound (c .before)) (omega arith))
 
 put-sheet-requires : tie.Need-put-sheet-requires
-put-sheet-requires c κs = let a = c .before .before .before .before .before .before .before .args in (lent-sound (a .n) (a .k) (a .words .now) (sound (c .before .before)), c .before .if1 .left)
+put-sheet-requires c κs = let a = c .before .before .before .before .before .before .before .args in (lent-sound (a .n) (a .k) (a .words .now) (sound (c .before .before)), omega arith)
 
 mul-t7 : tie.Need-mul-t7
 mul-t7 c = let m = most (c .before .before .before .before .before) in search needs
@@ -59,7 +53,7 @@ same-length : tie.Need-same-length
 same-length c = search needs
 
 returns-3 : tie.Need-returns-3
-returns-3 c = let a = c .before .before .before .before .before .before .before .before .before .before .args in rw (c .before .before .put-sheet .ensures) (sym (write-done (a .n) (a .k) (a .words .now) (a .area .now) (sound (c .before .before .before .before .before)) (c .before .before .before .before .if1 .left)))
+returns-3 c = let a = c .before .before .before .before .before .before .before .before .before .before .args in rw (c .before .before .put-sheet .ensures) (sym (write-done (a .n) (a .k) (a .words .now) (a .area .now) (sound (c .before .before .before .before .before)) (omega arith)))
 
 pub write-spec : {M : Type 1} → statement M
 write-spec =
