@@ -1,2 +1,3 @@
 // Sheets and the checker.
+pub mod machines;
 pub mod reading;
