@@ -1,10 +1,10 @@
 -- Lent areas: bytes (or words) that are written at a place, and the rest as it was.
 use mathlib.Core.Path.{_≡_, refl, sym, ap, ap₂, _∙_}
-use mathlib.Core.List.{List, [], _∷_, _++_, append-assoc}
+use mathlib.Core.List.{List, [], _∷_, _++_, append-assoc, append-nil}
 use Prim.Native.Nat.{ℕ, suc, _+_, _-_, _≤_, _<_}
 use native.Mathlib.Omega.{arith}
-use lib.ListN.{length, getD, take, drop, set, replicate, length-append, length-take, length-drop, take-append-drop, List·getD-append}
-use lib.Seq.{take-at, drop-at, drop-drop, set-split, drop-append-add, take-append-seam, getD-append-add, getD-take, getD-drop, length-take-le, ext-getD}
+use lib.ListN.{length, getD, take, drop, set, replicate, length-append, length-take, length-drop, take-append-drop, List·getD-append, drop-of-length-le}
+use lib.Seq.{take-at, drop-at, drop-drop, set-split, drop-append-add, take-append-seam, getD-append-add, getD-take, getD-drop, length-take-le, ext-getD, take-all, take-length}
 
 -- at the start of an area
 unfoldable pub over : List ℕ → List ℕ → List ℕ
@@ -102,3 +102,12 @@ put-part at new area h =
     let d : drop at (take at area ++ (new ++ drop (at + length new) area)) ≡ new ++ drop (at + length new) area =
     drop-at (take at area) (new ++ drop (at + length new) area) at (length-take-le at area (omega arith)) in
     ap (take (length new)) d ∙ take-append-seam new (drop (at + length new) area)
+
+-- a copy to the start of the part from a place on is a put
+pub put-copied : (area w : List ℕ) (at : ℕ) → at + length w ≤ length area
+    → take at area ++ ((take (length w) w ++ drop (length w) (take (length area - at) (drop at area))) ++ drop (length area - at) (drop at area)) ≡ put at w area
+unfolding put
+put-copied area w at h =
+    let a : take (length area - at) (drop at area) ≡ drop at area = take-all (length area - at) (drop at area) (omega (arith, length-drop at area)) in
+    let b : drop (length area - at) (drop at area) ≡ [] = drop-of-length-le (drop at area) {i = length area - at} (omega (arith, length-drop at area)) in
+    rw (a, b, take-length, drop-drop, append-nil)
