@@ -1,1 +1,3 @@
 pub mod Learner
+pub mod Store
+pub mod Grid

@@ -38,6 +38,12 @@ lentCheck n k words = do
 abbrev pub link : ℕ → ℕ → List ℕ → Machine
 link n k words = lent 256 n k words
 
+-- words of which the first n·k are a complete machine over k letters
+pub record Steps (n k : ℕ) (words : List ℕ) : Type 0 where
+  pub some : 1 ≤ n
+  pub long : n * k ≤ length words
+  pub next : (s a : ℕ) → s < n → a < k → getD words (s * k + a) 0 / 256 < n
+
 -- what lent words have that are not refused
 pub record Sound (n k : ℕ) (words : List ℕ) : Type 0 where
   pub n-low : 1 ≤ n

@@ -12,9 +12,10 @@ use lib.Arith.{digits-lt}
 use lib.Dec.{ltb, leb}
 use Rattle.rules.specs.Tests.{and-split, ltb-yes, lt-yes, leb-yes, le-yes}
 use Rattle.rules.specs.Words.{Word, Below}
-use Rattle.rules.specs.Machine.{Machine, lent, lastFrom, ask}
+use Rattle.rules.specs.Search.{walk}
+use Rattle.rules.specs.Machine.{Machine, Complete, lent, lastFrom}
 use Rattle.rules.specs.Answer.{Answer, refused, gives, demand, within, _>>_}
-use Rattle.machine.specs.Lent.{allPass, nextBelow, lettersBelow, lentCheck, Sound, link}
+use Rattle.machine.specs.Lent.{allPass, nextBelow, lettersBelow, lentCheck, Steps, Sound, link}
 
 -- ---- every number of a list passes
 module _ (p : ℕ → Bool) where
@@ -94,8 +95,22 @@ lent-sound n k words e =
       next = λ s l hs hl. ltb-yes (getD words (s * k + l) 0 / 256) n (all-at (λ (x : ℕ). ltb (x / 256) n) words (s * k + l) f (rw long (digits-lt hs hl)));
     }
 
--- ---- the last output, letter by letter
+pub sound-steps : {n k : ℕ} {words : List ℕ} → Sound n k words → Steps n k words
+sound-steps s = record { some = s .n-low; long = omega (arith, s .long); next = s .next }
+
+-- the machine that they lend is complete
+pub steps-complete : {n k : ℕ} {words : List ℕ} → Steps n k words → Complete k (link n k words)
+unfolding lent
+steps-complete s = (s .some, s .next)
+
+-- ---- a run and its last output, letter by letter
 module _ (M : Machine) where
+  pub walk-step : (s : ℕ) (w : Word) (i : ℕ) → i < length w → walk (M .next) s (drop i w) ≡ walk (M .next) (M .next s (getD w i 0)) (drop (i + 1) w)
+  walk-step s w i h = rw (add-one, drop-cons w i 0 h)
+
+  pub walk-ends : (s : ℕ) (w : Word) (i : ℕ) → length w ≤ i → walk (M .next) s (drop i w) ≡ s
+  walk-ends s w i h = rw drop-of-length-le
+
   pub last-step : (o s : ℕ) (w : Word) (i : ℕ) → i < length w → lastFrom M o s (drop i w) ≡ lastFrom M (M .out s (getD w i 0)) (M .next s (getD w i 0)) (drop (i + 1) w)
   unfolding lastFrom
   last-step o s w i h = rw (add-one, drop-cons w i 0 h)

@@ -1,4 +1,4 @@
 pub mod Refusals
-pub mod Answers
 pub mod Lent
 pub mod LentLaws
+pub mod Answers

@@ -5,9 +5,10 @@
 ghost use mathlib.Core.Path.{_≡_};
 ghost use mathlib.Core.Bool.{true};
 ghost use Prim.Native.Nat.{ℕ, _+_, _*_, _/_, _%_, _<_, _≤_};
-ghost use lib.ListN.{length};
-ghost use Rattle.rules.specs.Machine.{lent, lastFrom, ask};
-ghost use Rattle.machine.specs.Lent.{nextBelow, lettersBelow, link, lentCheck, Sound};
+ghost use lib.ListN.{length, getD};
+ghost use Rattle.rules.specs.Search.{walk};
+ghost use Rattle.rules.specs.Machine.{Machine, lent, ask};
+ghost use Rattle.machine.specs.Lent.{nextBelow, lettersBelow, link, lentCheck, Steps, Sound};
 ghost use Rattle.machine.specs.Lent as lents;
 ghost use Rattle.machine.specs.Answers.{checked, answered};
 
@@ -44,6 +45,52 @@ pub fn wide(x: u8) -> usize
     ensures { λ r. ⌜ r ≡ x ⌝ }
 {
     x as usize
+}
+
+// A number of two bytes as an index.
+pub fn index(x: u16) -> usize
+    ensures { λ r. ⌜ r ≡ x ⌝ }
+{
+    x as usize
+}
+
+// The next state from `state` by the letter `a`.
+pub fn next(words: &[u16], k: usize, state: usize, a: usize) -> usize
+    requires { ⌜ state * k + a < length (now words) ⌝ }
+    ensures { λ r. ⌜ r ≡ getD (now (words .entry)) (state * k + a) 0 / 256 ⌝ }
+{
+    next_of(words[state * k + a])
+}
+
+// The output in `state` at the letter `a`.
+pub fn output(words: &[u16], k: usize, state: usize, a: usize) -> u8
+    requires { ⌜ state * k + a < length (now words) ⌝ }
+    ensures { λ r. ⌜ r ≡ getD (now (words .entry)) (state * k + a) 0 % 256 ⌝ }
+{
+    output_of(words[state * k + a])
+}
+
+// The word for a next state and an output.
+pub fn word(next: usize, output: u8) -> u16
+    requires { ⌜ next < 256 ⌝ }
+    ensures { λ r. ⌜ r ≡ 256 * next + output ⌝ }
+{
+    256 * (next as u16) + (output as u16)
+}
+
+// The state that a word leads to from the start, in the machine of the first n·k words.
+pub fn state_after(words: &[u16], n: usize, k: usize, w: &[u8]) -> usize
+    requires { ⌜ Steps n k (now words) ⌝ }
+    requires { ⌜ lettersBelow k (now w) ≡ true ⌝ }
+    ensures { λ r. ⌜ r ≡ walk (link n k (now (words .entry)) .next) 0 (now (w .entry)) ⌝ }
+{
+    let mut state: usize = 0;
+    let mut at: usize = 0;
+    while at < w.len() {
+        state = next(words, k, state, wide(w[at]));
+        at += 1;
+    }
+    state
 }
 
 // Whether every word's next state is below `n`.

@@ -1,10 +1,10 @@
 -- Lent areas: bytes (or words) that are written at a place, and the rest as it was.
 use mathlib.Core.Path.{_≡_, refl, sym, ap, ap₂, _∙_}
-use mathlib.Core.List.{List, [], _∷_, _++_, append-assoc}
-use Prim.Native.Nat.{ℕ, suc, _+_, _≤_, _<_}
+use mathlib.Core.List.{List, [], _∷_, _++_, append-assoc, append-nil}
+use Prim.Native.Nat.{ℕ, suc, _+_, _-_, _≤_, _<_}
 use native.Mathlib.Omega.{arith}
-use lib.ListN.{length, take, drop, set, replicate, length-append, length-take, length-drop, take-append-drop}
-use lib.Seq.{take-at, drop-drop, set-split, drop-append-add}
+use lib.ListN.{length, getD, take, drop, set, replicate, length-append, length-take, length-drop, take-append-drop, List·getD-append, drop-of-length-le}
+use lib.Seq.{take-at, drop-at, drop-drop, set-split, drop-append-add, take-append-seam, getD-append-add, getD-take, getD-drop, length-take-le, ext-getD, take-all, take-length}
 
 -- at the start of an area
 unfoldable pub over : List ℕ → List ℕ → List ℕ
@@ -57,3 +57,57 @@ pub put-store : (at : ℕ) (x : List ℕ) (v : ℕ) (area : List ℕ) → at + l
 put-store at x v area h =
     let size : length (put at x area) ≡ length area = put-length at x area (omega arith) in
     put-one (put at x area) (at + length x) v (omega arith) ∙ put-put at x (v ∷ []) area (omega arith)
+
+-- ---- place by place
+module _ (at : ℕ) (new area : List ℕ) (fits : at + length new ≤ length area) where
+  front : length (take at area) ≡ at
+  front = length-take-le at area (omega arith)
+
+  pub put-below : (i : ℕ) → i < at → getD (put at new area) i 0 ≡ getD area i 0
+  unfolding put
+  put-below i h = List·getD-append (take at area) (new ++ drop (at + length new) area) 0 i (omega (arith, front)) ∙ getD-take at area i 0 h
+
+  pub put-in : (i : ℕ) → i < length new → getD (put at new area) (at + i) 0 ≡ getD new i 0
+  unfolding put
+  put-in i h = (rw front at (getD-append-add (take at area) (new ++ drop (at + length new) area) i 0)) ∙ List·getD-append new (drop (at + length new) area) 0 i h
+
+  pub put-above : (i : ℕ) → at + length new ≤ i → getD (put at new area) i 0 ≡ getD area i 0
+  unfolding put
+  put-above i h =
+      let j = i - (at + length new) in
+      let e : i ≡ at + (length new + j) = omega arith in
+      let f : at + length new + j ≡ i = omega arith in
+      ap (λ (n : ℕ). getD (put at new area) n 0) e
+      ∙ (rw front at (getD-append-add (take at area) (new ++ drop (at + length new) area) (length new + j) 0))
+      ∙ getD-append-add new (drop (at + length new) area) j 0
+      ∙ getD-drop (at + length new) area j 0
+      ∙ ap (λ (n : ℕ). getD area n 0) f
+
+-- a part of two lists that agree on its places
+pub part-same : (old new : List ℕ) (a n : ℕ) → length new ≡ length old → ((i : ℕ) → a ≤ i → i < a + n → getD new i 0 ≡ getD old i 0) → take n (drop a new) ≡ take n (drop a old)
+part-same old new a n size same = ext-getD 0 (take n (drop a new)) (take n (drop a old)) (simp (length-take, length-drop) (omega arith)) (λ i h. at i (low i h))
+  where
+    low : (i : ℕ) → i < length (take n (drop a new)) → i < n
+    low i h = let l = length-take n (drop a new) in omega arith
+
+    at : (i : ℕ) → i < n → getD (take n (drop a new)) i 0 ≡ getD (take n (drop a old)) i 0
+    at i h =
+        getD-take n (drop a new) i 0 h ∙ getD-drop a new i 0 ∙ same (a + i) (omega arith) (omega arith)
+        ∙ sym (getD-take n (drop a old) i 0 h ∙ getD-drop a old i 0)
+
+-- what was put is read back
+pub put-part : (at : ℕ) (new area : List ℕ) → at + length new ≤ length area → take (length new) (drop at (put at new area)) ≡ new
+unfolding put
+put-part at new area h =
+    let d : drop at (take at area ++ (new ++ drop (at + length new) area)) ≡ new ++ drop (at + length new) area =
+    drop-at (take at area) (new ++ drop (at + length new) area) at (length-take-le at area (omega arith)) in
+    ap (take (length new)) d ∙ take-append-seam new (drop (at + length new) area)
+
+-- a copy to the start of the part from a place on is a put
+pub put-copied : (area w : List ℕ) (at : ℕ) → at + length w ≤ length area
+    → take at area ++ ((take (length w) w ++ drop (length w) (take (length area - at) (drop at area))) ++ drop (length area - at) (drop at area)) ≡ put at w area
+unfolding put
+put-copied area w at h =
+    let a : take (length area - at) (drop at area) ≡ drop at area = take-all (length area - at) (drop at area) (omega (arith, length-drop at area)) in
+    let b : drop (length area - at) (drop at area) ≡ [] = drop-of-length-le (drop at area) {i = length area - at} (omega (arith, length-drop at area)) in
+    rw (a, b, take-length, drop-drop, append-nil)

@@ -7,7 +7,7 @@ use mathlib.Core.List.{List, [], _∷_, _++_, append-nil, append-assoc, head-eq-
 use Prim.Native.Nat.{ℕ, zero, suc, _+_, _*_, _/_, _%_, _≤_, _<_}
 use native.Mathlib.Nat.{not-suc-le-zero, le-of-suc-le-suc, mod-lt, div-lt-iff-lt-mul, eq-or-lt-of-le, mul-zero}
 use native.Mathlib.Omega.{arith}
-use lib.ListN.{length, getD, length-append, List·getD-append}
+use lib.ListN.{length, getD, length-append, length-map, List·getD-append}
 use lib.Seq.{getD-append-seam, append-snoc}
 use lib.Arith.{digits-div, digits-mod, digits-lt}
 use lib.Dec.{eqb, ltb}
@@ -99,6 +99,16 @@ module _ (ask : Word → ℕ) where
   cells-at [] x y e c h = absurd (not-suc-le-zero h)
   cells-at (d ∷ E) x y e zero h = head-eq-of-cons-eq e
   cells-at (d ∷ E) x y e (suc c) h = cells-at E x y (tail-eq-of-cons-eq e) c (le-of-suc-le-suc h)
+
+  pub cells-get : (E : List Word) (w : Word) (c : ℕ) → c < length E → getD (cells ask E w) c 0 ≡ ask (w ++ getD E c [])
+  unfolding cells
+  cells-get [] w c h = absurd (not-suc-le-zero h)
+  cells-get (e ∷ E) w zero h = refl
+  cells-get (e ∷ E) w (suc c) h = cells-get E w c (le-of-suc-le-suc h)
+
+  pub cells-length : (E : List Word) (w : Word) → length (cells ask E w) ≡ length E
+  unfolding cells
+  cells-length E w = length-map E (λ (e : Word). ask (w ++ e))
 
   -- a column more: the cells of before, and one
   pub cells-snoc : (E : List Word) (e x y : Word) → cells ask (E ++ (e ∷ [])) x ≡ cells ask (E ++ (e ∷ [])) y → (cells ask E x ≡ cells ask E y) × (ask (x ++ e) ≡ ask (y ++ e))

@@ -1,6 +1,6 @@
 -- How long a counterexample gets: two machines side by side are one machine of n + m states, so what tells s of the first from t of the
 -- second is told by a word of fewer than n + m letters.
-use mathlib.Core.Path.{_≡_, refl, sym, ap, ap₂, _∙_, subst}
+use mathlib.Core.Path.{_≡_, refl, sym, _∙_, subst}
 use mathlib.Core.Logic.{_⊎_, inl, inr, _≢_}
 use mathlib.Core.Bool.{Bool, true, false}
 use mathlib.Core.List.{List, [], _∷_, _++_, map, head-eq-of-cons-eq, tail-eq-of-cons-eq}
@@ -17,6 +17,7 @@ use Rattle.rules.specs.Search.{walk}
 use Rattle.rules.specs.Machine.{Machine, Complete}
 use Rattle.rules.specs.MachineLaws.{walk-low}
 use Rattle.rules.specs.Table.{from}
+use Rattle.rules.specs.FromLaws.{map-from-same}
 use Rattle.rules.specs.Telling.{Telling, bound}
 
 abbrev either : {A : Type 0} → Bool → A → A → A
@@ -24,11 +25,6 @@ either true x y = x
 either false x y = y
 
 -- ---- functions over the letters as lists
-pub map-ext : (f g : ℕ → ℕ) (i n : ℕ) → ((b : ℕ) → b < i + n → f b ≡ g b) → map f (from i n) ≡ map g (from i n)
-unfolding from
-map-ext f g i zero h = refl
-map-ext f g i (suc n) h = ap₂ {C = List ℕ} _∷_ (h i (omega arith)) (map-ext f g (suc i) n (λ b l. h b (omega arith)))
-
 map-at : (f g : ℕ → ℕ) (i n : ℕ) → map f (from i n) ≡ map g (from i n) → (b : ℕ) → i ≤ b → b < i + n → f b ≡ g b
 unfolding from
 map-at f g i zero e b l u = absurd (never l u)
@@ -123,7 +119,7 @@ module _ (k : ℕ) (M N : Machine) (whole : Complete k M) (whole′ : Complete k
             go : Least (λ c. f c ≢ g c) k ⊎ ((c : ℕ) → c < k → ¬ (f c ≢ g c)) → Shown k (M .states + N .states) M N s t
             go (inl x) = record { v = u; b = x .at; letters = bu; low = x .below; short = omega arith; differ = x .has }
             go (inr never) =
-                absurd (du (first-shows s u hs bu ∙ map-ext f g 0 k (λ c h. stable (ℕ-discrete (f c) (g c)) (never c (omega arith))) ∙ sym (second-shows t u)))
+                absurd (du (first-shows s u hs bu ∙ map-from-same f g 0 k (λ c h. stable (ℕ-discrete (f c) (g c)) (never c (omega arith))) ∙ sym (second-shows t u)))
 
     -- so the least such word has fewer than n + m letters
     pub least-short : (v : Word) (b : ℕ) → Below k v → b < k → M .out (walk (M .next) s v) b ≢ N .out (walk (N .next) t v) b

@@ -6,6 +6,7 @@ pub mod Search
 pub mod SearchLaws
 pub mod Machine
 pub mod Table
+pub mod FromLaws
 pub mod Rounds
 pub mod Difference
 pub mod Numbering
@@ -21,4 +22,5 @@ pub mod Lengths
 pub mod NumberingLaws
 pub mod DifferenceLaws
 pub mod Links
+pub mod ByHand
 pub mod SheetLaws

@@ -2,17 +2,17 @@
 use mathlib.Core.Path.{_≡_, refl, sym, ap, ap₂, _∙_, subst}
 use mathlib.Core.Logic.{_⊎_, inl, inr, _≢_}
 use mathlib.Core.Option.{Option, none, some}
-use mathlib.Core.List.{List, [], _∷_, _++_, map}
+use mathlib.Core.List.{List, [], _∷_, _++_}
 use Prim.Native.Nat.{ℕ, zero, suc, _+_, _*_, _-_, _≤_, _<_}
-use native.Mathlib.Nat.{not-suc-le-zero, le-of-suc-le-suc}
 use native.Mathlib.Omega.{arith}
-use lib.ListN.{length, getD, take, drop, length-append, length-map}
+use lib.ListN.{length, getD, take, drop, length-append}
 use lib.Seq.{take-append-seam, drop-append-seam}
 use Rattle.rules.specs.Words.{Word, Below, below-append, below-take, below-at, snoc-of}
 use Rattle.rules.specs.Search.{walk, walk-append}
 use Rattle.rules.specs.Machine.{Machine, Complete, answerFrom, answer, lastFrom, ask, Equal, SmallestModel}
 use Rattle.rules.specs.MachineLaws.{walk-low, last-append, last-any, ask-snoc, equal-asks, asks-equal}
-use Rattle.rules.specs.Table.{from, oneLetter, close, move, conjecture, swapped}
+use Rattle.rules.specs.Table.{oneLetter, close, move, conjecture, swapped}
+use Rattle.rules.specs.FromLaws.{map-from-length, map-from-at}
 use Rattle.rules.specs.Closing.{Words, Columns, Shut}
 use Rattle.rules.specs.Round.{guess, Classes, lower-bound}
 use Rattle.rules.specs.Rounds.{Stop, rounds, learned}
@@ -54,29 +54,19 @@ machine-classes k M N whole equal = record {
         ∙ sym (last-append N 0 0 v e)
 
 -- ---- the one-letter columns
-one-letter-at : (i n : ℕ) (P : Word → Type 0) → ((b : ℕ) → b < i + n → P (b ∷ [])) → (j : ℕ) → j < length (map (λ (a : ℕ). a ∷ []) (from i n))
-    → P (getD (map (λ (a : ℕ). a ∷ []) (from i n)) j [])
-unfolding from
-one-letter-at i zero P f j h = absurd (not-suc-le-zero h)
-one-letter-at i (suc n) P f zero h = f i (omega arith)
-one-letter-at i (suc n) P f (suc j) h = one-letter-at (suc i) n P (λ b u. f b (omega arith)) j (le-of-suc-le-suc h)
-
-pub one-letter-long : (k : ℕ) → Columns 1 (oneLetter k)
+pub one-letter-at : (k a : ℕ) → a < k → getD (oneLetter k) a [] ≡ a ∷ []
 unfolding oneLetter
-one-letter-long k = one-letter-at 0 k (λ (w : Word). 1 ≤ length w) (λ b h. omega arith)
-
-pub one-letter-below : (k : ℕ) → Words k (oneLetter k)
-unfolding oneLetter
-one-letter-below k = one-letter-at 0 k (Below k) (λ b h. (omega arith, tt))
-
-from-length : (i n : ℕ) → length (from i n) ≡ n
-unfolding from
-from-length i zero = refl
-from-length i (suc n) = ap suc (from-length (suc i) n)
+one-letter-at k a h = let z : 0 + a ≡ a = omega arith in map-from-at (λ (a : ℕ). a ∷ []) 0 k a [] h ∙ ap {B = Word} (λ (b : ℕ). b ∷ []) z
 
 pub one-letter-length : (k : ℕ) → length (oneLetter k) ≡ k
 unfolding oneLetter
-one-letter-length k = length-map (from 0 k) (λ (a : ℕ). a ∷ []) ∙ from-length 0 k
+one-letter-length k = map-from-length (λ (a : ℕ). a ∷ []) 0 k
+
+pub one-letter-long : (k : ℕ) → Columns 1 (oneLetter k)
+one-letter-long k c h = rw (one-letter-at k c (rw (one-letter-length k) at h)) (omega arith)
+
+pub one-letter-below : (k : ℕ) → Words k (oneLetter k)
+one-letter-below k c h = let l = rw (one-letter-length k) at h in rw (one-letter-at k c l) (l, tt)
 
 -- ---- the conjecture as a machine
 module _ (k : ℕ) (M : Machine) where

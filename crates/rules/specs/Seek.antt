@@ -63,6 +63,16 @@ seek-none p i n none = go (sought p i n) (eq-or-lt-of-le (sought p i n .high))
     go s (inl e) = e
     go s (inr l) = absurd (true≢false (sym (s .hit l) ∙ none (seek p i n) (s .low) l))
 
+-- tests that agree find the same
+pub seek-same : (p q : ℕ → Bool) (i n : ℕ) → ((j : ℕ) → i ≤ j → j < i + n → p j ≡ q j) → seek p i n ≡ seek q i n
+unfolding seek
+seek-same p q i zero f = refl
+seek-same p q i (suc n) f = go (q i) refl (f i (omega arith) (omega arith)) (seek-same p q (suc i) n (λ j l u. f j (omega arith) (omega arith)))
+  where
+    go : (b : Bool) → q i ≡ b → p i ≡ q i → seek p (suc i) n ≡ seek q (suc i) n → seek p i (suc n) ≡ seek q i (suc n)
+    go true e s ih = let d : p i ≡ true = s ∙ e in rw (d, e, seek)
+    go false e s ih = let d : p i ≡ false = s ∙ e in rw (d, e, seek) ih
+
 -- ---- what a loop asks for: the search as it stands at i, of places below n
 module _ (p : ℕ → Bool) (n : ℕ) where
   abbrev pub seekOn : ℕ → ℕ

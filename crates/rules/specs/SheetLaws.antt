@@ -2,13 +2,13 @@
 use mathlib.Core.Path.{_≡_, refl, sym, ap, _∙_}
 use mathlib.Core.List.{List, [], _∷_, _++_, append-assoc, append-nil}
 use Prim.Native.Nat.{ℕ, zero, suc, _+_, _*_, _/_, _%_, _-_, _≤_, _<_}
-use native.Mathlib.Nat.{zero-mul, suc-mul, mul-le-mul-right}
+use native.Mathlib.Nat.{zero-mul, suc-mul, mul-le-mul, mul-le-mul-right}
 use native.Mathlib.Numerals.{add-one}
 use native.Mathlib.Omega.{arith}
 use lib.ListN.{length, getD, take, drop, set, length-append, length-drop}
 use lib.Seq.{length-take-le, take-suc, drop-drop, getD-drop}
 use Rattle.rules.specs.Areas.{put, put-one, put-put, put-store}
-use Rattle.rules.specs.Sheets.{MR, pairBytes, rowBytes, machineBytes}
+use Rattle.rules.specs.Sheets.{MH, MR, pairBytes, rowBytes, machineBytes}
 
 -- the pair of one word
 abbrev pub pair : ℕ → List ℕ
@@ -63,6 +63,13 @@ pub machine-length : (n k : ℕ) (words : List ℕ) → n * k ≤ length words �
 unfolding machineBytes
 machine-length n k words h = let l = rows-length k n words h in omega arith
 
+-- the rows of the longest sheet, and its words
+pub rows-most : (n k : ℕ) → n ≤ 48 → k ≤ 12 → n * (2 + 2 * k) ≤ 1248
+rows-most n k hn hk = mul-le-mul {n₁ = n} {m₁ = 2 + 2 * k} {n₂ = 48} {m₂ = 26} hn (omega arith)
+
+pub words-most : (n k : ℕ) → n ≤ 48 → k ≤ 12 → n * k ≤ 576
+words-most n k hn hk = mul-le-mul {n₁ = n} {m₁ = k} {n₂ = 48} {m₂ = 12} hn hk
+
 -- of n things of one size, r come before another
 pub room : (r n size : ℕ) → r < n → r * size + size ≤ n * size
 room r n size h = omega (arith, suc-mul r size, mul-le-mul-right {m = suc r} {n = n} size h)
@@ -96,3 +103,12 @@ put-rows-more at k r words area h f =
     let p = row-length k (drop (r * k) words) (omega arith) in
     let q = rows-length k r words (omega arith) in
     rw (add-one, rows-more k r words) (put-next at (r * (2 + 2 * k)) (rowBytes k r words) (rowOf k (drop (r * k) words)) area q (omega arith))
+
+-- a machine sheet: its mark, n and k, and its rows
+pub put-machine : (n k : ℕ) (words area : List ℕ) → n * k ≤ length words → 4 + n * (2 + 2 * k) ≤ length area
+    → put 4 (rowBytes k n words) (set (set (put 0 MH area) 2 n) 3 k) ≡ put 0 (machineBytes n k words) area
+unfolding machineBytes
+put-machine n k words area h f =
+    let l = rows-length k n words h in
+    ap (λ (a : List ℕ). put 4 (rowBytes k n words) a) (ap (λ (a : List ℕ). set a 3 k) (put-store 0 MH n area (omega arith)) ∙ put-store 0 (MH ++ (n ∷ [])) k area (omega arith))
+    ∙ put-put 0 (MH ++ (n ∷ k ∷ [])) (rowBytes k n words) area (omega arith)

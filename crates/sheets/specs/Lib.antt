@@ -1,6 +1,10 @@
 pub mod Reading
+pub mod Standing
 pub mod Steps
 pub mod Machines
+pub mod MachineSteps
+pub mod MachineAnswers
+pub mod MachineLaws
 pub mod Proofs
 pub mod WordRecords
 pub mod ProofSteps

@@ -4,7 +4,6 @@ use mathlib.Core.Bool.{Bool, true, false, _&&_}
 use mathlib.Core.List.{List, [], _∷_, _++_, append-assoc}
 use Prim.Native.Nat.{ℕ, zero, suc, _+_, _*_, _-_, _/_, _%_, _≤_, _<_}
 use native.Mathlib.Nat.{suc-mul, zero-mul, zero-add}
-use native.Mathlib.Numerals.{add-one}
 use native.Mathlib.Omega.{arith}
 use lib.ListN.{length, getD, take, drop, length-append, length-drop, take-append-drop}
 use lib.Seq.{drop-cons, drop-drop, take-at, drop-at}
@@ -15,7 +14,8 @@ use Rattle.rules.specs.Words.{Below, below-drop}
 use Rattle.machine.specs.Lent.{nextBelow, allPass}
 use Rattle.rules.specs.Answer.{Answer, refused, gives}
 use Rattle.rules.specs.Sheets.{MR, pairBytes, rowBytes}
-use Rattle.sheets.specs.Reading.{Parsed, bad, good, Reader, pure, andThen, _>>=_, _>>_, demand, present, byte, grab, mark, pairs, rows}
+use Rattle.sheets.specs.Standing.{pairWords, rowWords}
+use Rattle.sheets.specs.Reading.{Parsed, bad, good, Reader, pure, andThen, _>>=_, _>>_, demand, present, mark, pairs, rows}
 
 -- what a step comes to: its refusal, or that it came out good
 abbrev pub outcome : {A : Type 0} → Parsed A → Answer (Unit {0})
@@ -29,17 +29,6 @@ row n k = do
   mark MR
   present (2 * k)
   pairs n k
-
--- the words of k pairs, as they stand
-unfoldable pub pairWords : ℕ → List ℕ → List ℕ
-pairWords zero bytes = []
-pairWords (suc k) bytes = (256 * getD bytes 1 0 + getD bytes 0 0) ∷ pairWords k (drop 2 bytes)
-
--- the words of r rows, as they stand
-unfoldable pub rowWords : ℕ → ℕ → List ℕ → List ℕ
-unfolding pairWords
-rowWords k zero bytes = []
-rowWords k (suc r) bytes = pairWords k (drop 2 bytes) ++ rowWords k r (drop (2 + 2 * k) bytes)
 
 -- ---- steps one after the other
 clash : _≡_ {A = ℕ} 0 1 → ⊥
@@ -70,6 +59,11 @@ then-good (good a between) f b rest e = (a, between, refl, e)
 pub demand-good : (t : Bool) (x : ℕ) (bytes : List ℕ) (u : Unit {0}) (rest : List ℕ) → demand t x bytes ≡ good u rest → (t ≡ true) × (bytes ≡ rest)
 demand-good true x bytes u rest e = (refl, cc)
 demand-good false x bytes u rest e = absurd (bad-good e)
+
+-- a test that leads on was passed
+pub demanded : {B : Type 0} (t : Bool) (x : ℕ) (bytes : List ℕ) (f : Unit {0} → Reader B) (b : B) (rest : List ℕ) → andThen (demand t x bytes) f ≡ good b rest → (t ≡ true) × (f tt bytes ≡ good b rest)
+demanded true x bytes f b rest e = (refl, e)
+demanded false x bytes f b rest e = absurd (bad-good e)
 
 -- three steps and what is made of them: the first two and the third are one step
 pub then-in : {A B C D : Type 0} (p : Parsed A) (q : Reader B) (r : Reader C) (g : C → Reader D)
@@ -104,10 +98,9 @@ mark-two x y bytes at h =
 pub mark-were : (due bytes : List ℕ) (u : Unit {0}) (rest : List ℕ) → mark due bytes ≡ good u rest → (2 ≤ length bytes) × (rest ≡ drop 2 bytes) × (take 2 bytes ≡ due)
 unfolding mark
 mark-were due bytes u rest e =
-    let a = then-good (present 2 bytes) _ u rest e in
-    let b = demand-good (leb 2 (length bytes)) 1 bytes (a .0) (a .1) (a .2) in
-    let c = demand-good (eqs (take 2 (a .1)) due) 2 (drop 2 (a .1)) u rest (a .3) in
-    (leb-yes 2 (length bytes) (b .0), sym (c .1) ∙ ap (λ (l : List ℕ). drop 2 l) (sym (b .1)), ap (λ (l : List ℕ). take 2 l) (b .1) ∙ eqs-true (take 2 (a .1)) due (c .0))
+    let a = demanded (leb 2 (length bytes)) 1 bytes _ u rest e in
+    let b = demand-good (eqs (take 2 bytes) due) 2 (drop 2 bytes) u rest (a .1) in
+    (leb-yes 2 (length bytes) (a .0), sym (b .1), eqs-true (take 2 bytes) due (b .0))
 
 -- ---- What was read as words: it took `count` bytes, and the `size` words are those that stand there. Of bytes: each next state is
 -- below n, and the words' bytes are those read, so that no words are written in two ways.
@@ -128,11 +121,9 @@ pairs-were n zero bytes words rest e =
 pairs-were n (suc k) [] words rest e = absurd (bad-good e)
 pairs-were n (suc k) (o ∷ []) words rest e = absurd (bad-good e)
 pairs-were n (suc k) (o ∷ x ∷ bytes) words rest e =
-    let d = then-good (demand (ltb x n) 4 bytes) _ words rest e in
-    let t = demand-good (ltb x n) 4 bytes (d .0) (d .1) (d .2) in
-    let r = then-good (pairs n k (d .1)) _ words rest (d .3) in
-    let i = pairs-were n k bytes (r .0) (r .1) (subst (λ (z : List ℕ). pairs n k z ≡ good (r .0) (r .1)) (sym (t .1)) (r .2)) in
-    made (r .0) (r .1) i (t .0) (r .3)
+    let t = demanded (ltb x n) 4 bytes _ words rest e in
+    let r = then-good (pairs n k bytes) _ words rest (t .1) in
+    made (r .0) (r .1) (pairs-were n k bytes (r .0) (r .1) (r .2)) (t .0) (r .3)
   where
     -- the parts are variables here: a `let` would be seen through
     made : (others after : List ℕ) → Read n (2 * k) k bytes after others (pairWords k bytes) (pairBytes others) → ltb x n ≡ true
@@ -179,10 +170,8 @@ unfolding row nextBelow allPass
 row-were n k bytes words rest e =
     let a = then-good (mark MR bytes) _ words rest e in
     let m = mark-were MR bytes (a .0) (a .1) (a .2) in
-    let b = then-good (present (2 * k) (a .1)) _ words rest (a .3) in
-    let p = demand-good (leb (2 * k) (length (a .1))) 1 (a .1) (b .0) (b .1) (b .2) in
-    let here : b .1 ≡ drop 2 bytes = sym (p .1) ∙ m .1 in
-    let i = pairs-were n k (drop 2 bytes) words rest (subst (λ (l : List ℕ). pairs n k l ≡ good words rest) here (b .3)) in
+    let p = demanded (leb (2 * k) (length (a .1))) 1 (a .1) _ words rest (a .3) in
+    let i = pairs-were n k (drop 2 bytes) words rest (subst (λ (l : List ℕ). pairs n k l ≡ good words rest) (m .1) (p .1)) in
     let mark-read : Read n 2 0 bytes (drop 2 bytes) [] [] MR = record {
       within = m .0;
       after = refl;

@@ -1,3 +1,4 @@
 // Sheets and the checker.
+pub mod machines;
 pub mod proofs;
 pub mod reading;

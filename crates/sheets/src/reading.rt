@@ -54,6 +54,7 @@ pub fn row_check(bytes: &[u8], at: usize, n: usize, k: usize) -> Checked
         return Checked::Refused(r);
     }
     let place = at + 2;
+    // What is left is halved: `k` may be too large to be doubled.
     if (bytes.len() - place) / 2 < k {
         return Checked::Refused(Refusal::EndsEarly);
     }

@@ -1,14 +1,10 @@
 use lib.ListN.{length-set}
 use Rattle.rules.specs.SheetLaws.{put-two}
 use native.Mathlib.Omega.{arith}
-use mathlib.Core.Path.{_≡_, refl, sym, ap, _∙_}
-use Prim.Native.Nat.{ℕ, _+_, _*_, _-_, _/_, _%_, _<_, _≤_}
-use lib.ListN.{length, getD, take, drop, set}
+use lib.ListN.{getD}
 use borrow.Author.Needs.{needs}
 use Rattle.learning.proofs.records.put_mark.Statement.{statement}
 use Rattle.learning.proofs.records.put_mark.Tie as tie
-use Rattle.learning.proofs.records.put_mark.Reads as reads
-use Rattle.learning.proofs.records.put_mark.Lts as lts
 
 element-copy-out-area : tie.Need-element-copy-out-area
 element-copy-out-area c = search needs

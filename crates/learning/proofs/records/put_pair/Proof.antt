@@ -1,14 +1,10 @@
 use lib.ListN.{length-set}
 use Rattle.rules.specs.SheetLaws.{put-two}
 use native.Mathlib.Omega.{arith}
-use mathlib.Core.Path.{_≡_, refl, sym, ap, _∙_}
-use Prim.Native.Nat.{ℕ, _+_, _*_, _-_, _/_, _%_, _<_, _≤_}
-use lib.ListN.{length, getD, take, drop, set}
+use Prim.Native.Nat.{_/_, _%_}
 use borrow.Author.Needs.{needs}
 use Rattle.learning.proofs.records.put_pair.Statement.{statement}
 use Rattle.learning.proofs.records.put_pair.Tie as tie
-use Rattle.learning.proofs.records.put_pair.Reads as reads
-use Rattle.learning.proofs.records.put_pair.Lts as lts
 
 cast-area : tie.Need-cast-area
 cast-area c = search needs

@@ -5,13 +5,10 @@ use Rattle.rules.specs.SheetLaws.{pair, put-pairs-more}
 use borrow.Author.Needs.{needs}
 use native.Mathlib.Omega.{arith}
 use mathlib.Core.Path.{_≡_, refl, sym, ap, _∙_}
-use Prim.Native.Nat.{ℕ, _+_, _*_, _-_, _/_, _%_, _<_, _≤_}
-use lib.ListN.{length, getD, take, drop, set}
+use Prim.Native.Nat.{ℕ, _+_, _*_, _-_, _≤_}
+use lib.ListN.{length, getD, take, drop}
 use Rattle.learning.proofs.records.put_pairs.Statement.{statement}
 use Rattle.learning.proofs.records.put_pairs.Tie as tie
-use Rattle.learning.proofs.records.put_pairs.Reads as reads
-use Rattle.learning.proofs.records.put_pairs.Lts as lts
-use Rattle.learning.proofs.records.put_pair.Reads as put-pair-reads
 
 abbrev Inv-loop : tie.InvT-loop
 Inv-loop area₀ at words from k i₀ area i = (i ≤ k) × (length area ≡ length area₀) × (area ≡ put at (pairBytes (take i (drop from words))) area₀)

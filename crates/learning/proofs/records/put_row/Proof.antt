@@ -4,16 +4,12 @@ use Rattle.rules.specs.Areas.{put}
 use Rattle.rules.specs.Sheets.{pairBytes}
 use Rattle.rules.specs.SheetLaws.{put-row}
 use native.Mathlib.Omega.{arith}
-use mathlib.Core.Path.{_≡_, refl, sym, ap, _∙_}
-use Prim.Native.Nat.{ℕ, _+_, _*_, _-_, _/_, _%_, _<_, _≤_}
-use lib.ListN.{length, getD, take, drop, set}
+use mathlib.Core.Path.{ap, _∙_}
+use Prim.Native.Nat.{ℕ, _+_}
+use lib.ListN.{take, drop}
 use borrow.Author.Needs.{needs}
 use Rattle.learning.proofs.records.put_row.Statement.{statement}
 use Rattle.learning.proofs.records.put_row.Tie as tie
-use Rattle.learning.proofs.records.put_row.Reads as reads
-use Rattle.learning.proofs.records.put_row.Lts as lts
-use Rattle.learning.proofs.records.put_mark.Reads as put-mark-reads
-use Rattle.learning.proofs.records.put_pairs.Reads as put-pairs-reads
 
 put-mark-requires : tie.Need-put-mark-requires
 put-mark-requires c κs = search needs

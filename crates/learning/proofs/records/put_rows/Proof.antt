@@ -1,19 +1,15 @@
 use Rattle.rules.specs.SheetLaws.{room}
-use mathlib.Core.List.{List}
-use native.Mathlib.Nat.{suc-mul, zero-mul, mul-le-mul-right}
+use native.Mathlib.Nat.{suc-mul, zero-mul}
 use Rattle.rules.specs.Areas.{put, put-none}
 use Rattle.rules.specs.Sheets.{rowBytes}
-use Rattle.rules.specs.SheetLaws.{rowOf, put-rows-more}
+use Rattle.rules.specs.SheetLaws.{put-rows-more}
 use borrow.Author.Needs.{needs}
 use native.Mathlib.Omega.{arith}
-use mathlib.Core.Path.{_≡_, refl, sym, ap, _∙_}
-use Prim.Native.Nat.{ℕ, _+_, _*_, _-_, _/_, _%_, _<_, _≤_}
-use lib.ListN.{length, getD, take, drop, set}
+use mathlib.Core.Path.{_≡_, refl, sym, _∙_}
+use Prim.Native.Nat.{_+_, _*_, _-_, _≤_}
+use lib.ListN.{length}
 use Rattle.learning.proofs.records.put_rows.Statement.{statement}
 use Rattle.learning.proofs.records.put_rows.Tie as tie
-use Rattle.learning.proofs.records.put_rows.Reads as reads
-use Rattle.learning.proofs.records.put_rows.Lts as lts
-use Rattle.learning.proofs.records.put_row.Reads as put-row-reads
 
 abbrev Inv-loop : tie.InvT-loop
 Inv-loop area₀ at words k rows place₀ from₀ row₀ area place from row = (row ≤ rows) × (place ≡ at + row * (2 + 2 * k)) × (from ≡ row * k) × (length area ≡ length area₀) × (area ≡ put at (rowBytes k row words) area₀)

@@ -2,14 +2,11 @@ use lib.ListN.{length-drop}
 use borrow.Author.Tests.{eq-eqb, ne-eqb}
 use Rattle.sheets.specs.Steps.{mark-short, mark-two}
 use native.Mathlib.Omega.{arith}
-use mathlib.Core.Path.{_≡_, refl, sym, ap, _∙_}
-use Prim.Native.Nat.{ℕ, _+_, _*_, _-_, _/_, _%_, _<_, _≤_}
-use lib.ListN.{length, getD, take, drop, set}
+use Prim.Native.Nat.{_<_}
+use lib.ListN.{length, getD, drop}
 use borrow.Author.Needs.{needs}
 use Rattle.sheets.proofs.reading.mark_check.Statement.{statement}
 use Rattle.sheets.proofs.reading.mark_check.Tie as tie
-use Rattle.sheets.proofs.reading.mark_check.Reads as reads
-use Rattle.sheets.proofs.reading.mark_check.Lts as lts
 
 sub-if1 : tie.Need-sub-if1
 sub-if1 c = search needs

@@ -2,14 +2,11 @@ use Rattle.sheets.specs.Reading.{pairs}
 use Rattle.sheets.specs.Steps.{outcome, pairs-refused, pairs-passed, pairs-end}
 use borrow.Author.Needs.{needs}
 use native.Mathlib.Omega.{arith}
-use mathlib.Core.Path.{_≡_, refl, sym, ap, _∙_}
-use Prim.Native.Nat.{ℕ, _+_, _*_, _-_, _/_, _%_, _<_, _≤_}
-use lib.ListN.{length, getD, take, drop, set}
+use mathlib.Core.Path.{_≡_, refl, sym, _∙_}
+use Prim.Native.Nat.{_+_, _*_, _≤_}
+use lib.ListN.{length, drop}
 use Rattle.sheets.proofs.reading.pairs_check.Statement.{statement}
 use Rattle.sheets.proofs.reading.pairs_check.Tie as tie
-use Rattle.sheets.proofs.reading.pairs_check.Reads as reads
-use Rattle.sheets.proofs.reading.pairs_check.Lts as lts
-use Rattle.machine.proofs.wide.Reads as wide-reads
 
 abbrev Inv-loop : tie.InvT-loop
 Inv-loop bytes at n k place₀ left₀ place left = (place + 2 * left ≤ length bytes) × (outcome (pairs n k (drop at bytes)) ≡ outcome (pairs n left (drop place bytes)))

@@ -5,13 +5,10 @@ use Rattle.sheets.specs.Steps.{outcome, row, row-took, rows-refused, row
 use borrow.Author.Needs.{needs}
 use native.Mathlib.Omega.{arith}
 use mathlib.Core.Path.{_≡_, refl, sym, ap, _∙_}
-use Prim.Native.Nat.{ℕ, _+_, _*_, _-_, _/_, _%_, _<_, _≤_}
-use lib.ListN.{length, getD, take, drop, set}
+use Prim.Native.Nat.{_+_, _*_, _≤_}
+use lib.ListN.{length, drop}
 use Rattle.sheets.proofs.reading.rows_check.Statement.{statement}
 use Rattle.sheets.proofs.reading.rows_check.Tie as tie
-use Rattle.sheets.proofs.reading.rows_check.Reads as reads
-use Rattle.sheets.proofs.reading.rows_check.Lts as lts
-use Rattle.sheets.proofs.reading.row_check.Reads as row-check-reads
 
 abbrev Inv-loop : tie.InvT-loop
 Inv-loop bytes at n k r place₀ left₀ place left = (place ≤ length bytes) × (outcome (rows n k r (drop at bytes)) ≡ outcome (rows n k left (drop place bytes)))

@@ -1,0 +1,195 @@
+//! The program: the paper's cases, self checks over generated machines, and the paper's `learn`.
+
+use second::generator::Kind;
+use second::self_check::{Answers, Totals};
+use second::{cases, program, self_check};
+use std::fmt::Write as _;
+use std::io::{self, Read, Write as _};
+use std::process::ExitCode;
+
+const HELP: &str = "\
+second: an independent learner of Mealy machines, to be compared with another one
+
+second cases              run every case of the paper, one line each
+second random SEED COUNT  run self checks over COUNT machines generated from SEED
+second learn              read a machine sheet on standard input, print its model or refusal
+second --help             print this
+";
+
+/// What a command has to say, and whether all was right.
+struct Outcome {
+    text: String,
+    is_right: bool,
+}
+
+fn main() -> ExitCode {
+    let arguments: Vec<String> = std::env::args_os()
+        .skip(1)
+        .map(|argument| argument.to_string_lossy().into_owned())
+        .collect();
+    match command(&arguments) {
+        Ok(outcome) => print(&outcome),
+        Err(line) => {
+            eprintln!("second: {line} (see second --help)");
+            ExitCode::from(2)
+        }
+    }
+}
+
+/// Carries out a command; bad use gives a line that says what is wrong.
+fn command(arguments: &[String]) -> Result<Outcome, String> {
+    let arguments: Vec<&str> = arguments.iter().map(String::as_str).collect();
+    match arguments[..] {
+        [] => Err("a command is missing".to_string()),
+        ["--help" | "-h"] => Ok(right(HELP.to_string())),
+        ["cases"] => Ok(run_cases()),
+        ["random", seed, count] => run_random(number("SEED", seed)?, number("COUNT", count)?),
+        ["random", ..] => Err("random takes a SEED and a COUNT".to_string()),
+        ["learn"] => run_learn(),
+        ["cases" | "learn" | "--help" | "-h", ..] => {
+            Err(format!("{} takes no further argument", arguments[0]))
+        }
+        [other, ..] => Err(format!("there is no command {other}")),
+    }
+}
+
+fn right(text: String) -> Outcome {
+    Outcome {
+        text,
+        is_right: true,
+    }
+}
+
+fn number(name: &str, given: &str) -> Result<u64, String> {
+    given
+        .parse()
+        .map_err(|_| format!("{name} is not a number from 0 to {}: {given}", u64::MAX))
+}
+
+fn print(outcome: &Outcome) -> ExitCode {
+    if let Err(error) = io::stdout().write_all(outcome.text.as_bytes()) {
+        eprintln!("second: cannot print: {error}");
+        return ExitCode::FAILURE;
+    }
+    if outcome.is_right {
+        ExitCode::SUCCESS
+    } else {
+        ExitCode::FAILURE
+    }
+}
+
+fn run_cases() -> Outcome {
+    let cases = cases::all();
+    let mut text = String::new();
+    for case in &cases {
+        if case.is_right {
+            line(&mut text, &format!("right  {}", case.name));
+        } else {
+            let (expected, found) = (shortened(&case.expected), shortened(&case.found));
+            let name = case.name;
+            line(
+                &mut text,
+                &format!("WRONG  {name}: expected {expected}, found {found}"),
+            );
+        }
+    }
+    let wrong = cases.iter().filter(|case| !case.is_right).count();
+    line(&mut text, &format!("{} cases, {wrong} wrong", cases.len()));
+    Outcome {
+        text,
+        is_right: wrong == 0,
+    }
+}
+
+/// Whole areas are too long to print.
+fn shortened(text: &str) -> String {
+    const LONGEST: usize = 300;
+    if text.len() <= LONGEST {
+        text.to_string()
+    } else {
+        text.chars().take(LONGEST).chain("..".chars()).collect()
+    }
+}
+
+fn run_random(seed: u64, count: u64) -> Result<Outcome, String> {
+    let count = usize::try_from(count).map_err(|_| "COUNT is too large".to_string())?;
+    Ok(match self_check::run(seed, count) {
+        Ok(totals) => right(totals_text(&totals, count)),
+        Err(wrong) => Outcome {
+            text: format!("WRONG  seed {seed}, {wrong}\n"),
+            is_right: false,
+        },
+    })
+}
+
+fn totals_text(totals: &Totals, count: usize) -> String {
+    let mut text = String::new();
+    let mut all = Answers::default();
+    for (kind, answers) in Kind::ALL.iter().zip(&totals.by_kind) {
+        line(&mut text, &answers_text(kind.name(), answers));
+        all.machines += answers.machines;
+        all.done += answers.done;
+        all.open += answers.open;
+        all.refused += answers.refused;
+    }
+    line(&mut text, &answers_text("all kinds", &all));
+    line(
+        &mut text,
+        &format!(
+            "most rounds at Done {}, longest column {}, longest counterexample at Open {}",
+            totals.most_rounds, totals.longest_column, totals.longest_counterexample
+        ),
+    );
+    line(
+        &mut text,
+        &sheets_text("damaged machine sheets", &totals.damaged_machine_sheets),
+    );
+    line(
+        &mut text,
+        &sheets_text("damaged proof sheets", &totals.damaged_proof_sheets),
+    );
+    line(
+        &mut text,
+        &sheets_text(
+            "proof sheets of the machine before",
+            &totals.other_proof_sheets,
+        ),
+    );
+    line(&mut text, &format!("{count} machines, 0 wrong"));
+    text
+}
+
+fn answers_text(name: &str, answers: &Answers) -> String {
+    let Answers {
+        machines,
+        done,
+        open,
+        refused,
+    } = answers;
+    format!("{name:<18} {machines:>6} machines: {done} done, {open} open, {refused} refused 10")
+}
+
+fn sheets_text(name: &str, counts: &[usize]) -> String {
+    let mut text = format!("{name}: {} good", counts[0]);
+    for (number, count) in counts.iter().enumerate().skip(1) {
+        if *count > 0 {
+            write!(text, ", {count} refused {number}").expect("a string takes everything");
+        }
+    }
+    text
+}
+
+fn run_learn() -> Result<Outcome, String> {
+    let mut sheet = Vec::new();
+    io::stdin()
+        .lock()
+        .take(program::INPUT_BYTES as u64)
+        .read_to_end(&mut sheet)
+        .map_err(|error| format!("cannot read standard input: {error}"))?;
+    Ok(right(program::learn_text(&sheet)))
+}
+
+fn line(text: &mut String, added: &str) {
+    text.push_str(added);
+    text.push('\n');
+}
