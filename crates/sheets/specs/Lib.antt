@@ -10,5 +10,6 @@ pub mod WordRecords
 pub mod ProofSteps
 pub mod ProofAnswers
 pub mod Places
+pub mod ProofLaws
 pub mod Checker
 pub mod Cases

@@ -4,18 +4,21 @@ use mathlib.Core.Path.{_≡_, refl, sym, ap, ap₂, _∙_, subst}
 use mathlib.Core.Bool.{Bool, true, false}
 use mathlib.Core.List.{List, [], _∷_, _++_, append-assoc, append-nil}
 use Prim.Native.Nat.{ℕ, zero, suc, _+_, _*_, _-_, _≤_, _<_}
+use native.Mathlib.Nat.{not-suc-le-zero, le-of-suc-le-suc, suc-mul, zero-mul}
 use native.Mathlib.Omega.{arith}
-use lib.ListN.{length, getD, take, drop, length-append, length-drop}
-use lib.Seq.{drop-drop}
+use lib.ListN.{length, getD, take, drop, length-drop, List·getD-append}
+use lib.Seq.{drop-drop, getD-drop, getD-append-add}
 use lib.Dec.{ltb}
 use borrow.Author.Tests.{lt-ltb, le-ltb}
 use Rattle.rules.specs.Words.{Word}
 use Rattle.rules.specs.Answer.{Answer, refused, gives}
-use Rattle.rules.specs.Sheets.{AW, CW, SM, Proof, wordBytes, wordsBytes}
+use Rattle.rules.specs.Sheets.{AW, CW, SM, Proof, rowBytes, wordBytes, wordsBytes}
+use Rattle.machine.specs.Lent.{allPass}
 use Rattle.sheets.specs.Reading.{Parsed, bad, good, andThen, rows}
-use Rattle.sheets.specs.Proofs.{proofSheet, Counts, countsOf, readProof, recordOf, awRecord}
-use Rattle.sheets.specs.Steps.{then-good, rows-were}
-use Rattle.sheets.specs.WordRecords.{words-were, recordPlace, placeOf, Lies, Records, records}
+use Rattle.sheets.specs.Proofs.{mapByte, proofSheet, Counts, countsOf, readProof, recordOf, awRecord}
+use Rattle.sheets.specs.Standing.{wordAt, pairWords, rowWords, pair-words-length}
+use Rattle.sheets.specs.Steps.{then-good, Read, rows-were}
+use Rattle.sheets.specs.WordRecords.{AllFit, words-were, recordPlace, placeOf, Lies, Records, records}
 use Rattle.sheets.specs.ProofSteps.{clash, counts, InRange, header, body, sheet-parts, countsAt, Headed, headed, Parts, parts, map-were}
 
 -- the record of the word that reaches state j
@@ -43,15 +46,17 @@ unfolding proofSheet reachingPlace
 awPlace bytes state = placeIn (proofSheet bytes) state
 
 -- ---- a sheet that was read
--- its header, its parts, and their bytes after the model's rows
+-- its header and its parts: the words that stand in the model's rows, the bytes after them, and what each part has
 pub record Laid (bytes : List ℕ) (P : Proof) (rest : List ℕ) : Type 0 where
   pub head : Headed bytes
-  pub read : Parts (countsAt bytes) (drop 6 bytes) P rest
+  pub said : counts (P .m) (P .k) (P .n) (P .c) ≡ countsAt bytes
+  pub model : Read (P .m) (P .m * (2 + 2 * P .k)) (P .m * P .k) (drop 6 bytes) (drop (6 + P .m * (2 + 2 * P .k)) bytes) (P .model) (rowWords (P .k) (P .m) (drop 6 bytes)) (rowBytes (P .k) (P .m) (P .model))
   pub start : 6 + P .m * (2 + 2 * P .k) ≤ length bytes
   pub records : drop (6 + P .m * (2 + 2 * P .k)) bytes ≡ wordsBytes AW (P .reaching) ++ (wordsBytes CW (P .columns) ++ (SM ++ P .stateMap))
-  pub reaching-many : length (P .reaching) ≡ P .m
-  pub columns-many : length (P .columns) ≡ P .c
-  pub states-many : length (P .stateMap) ≡ P .n
+  pub reaching : (length (P .reaching) ≡ P .m) × AllFit 0 47 (P .k) (P .reaching)
+  pub columns : (length (P .columns) ≡ P .c) × AllFit 1 93 (P .k) (P .columns)
+  pub states : (length (P .stateMap) ≡ P .n) × (allPass (mapByte (P .m)) (P .stateMap) ≡ true)
+  pub end : rest ≡ []
 
 pub laid : (bytes : List ℕ) (P : Proof) (rest : List ℕ) → proofSheet bytes ≡ good P rest → Laid bytes P rest
 laid bytes P rest e =
@@ -62,16 +67,19 @@ laid bytes P rest e =
     let w = words-were AW 0 47 (P .k) (P .m) (p .after-model) (P .reaching) (p .after-reaching) (p .reaching) in
     let v = words-were CW 1 93 (P .k) (P .c) (p .after-reaching) (P .columns) (p .after-columns) (p .columns) in
     let s = map-were (P .m) (P .n) (p .after-columns) (P .stateMap) [] (p .states) in
+    let after : p .after-model ≡ drop (6 + P .m * (2 + 2 * P .k)) bytes = r .after ∙ drop-drop (P .m * (2 + 2 * P .k)) 6 bytes in
     record {
       head = h;
-      read = p;
+      said = p .said;
+      model = subst (λ (l : List ℕ). Read (P .m) (P .m * (2 + 2 * P .k)) (P .m * P .k) (drop 6 bytes) l (P .model) (rowWords (P .k) (P .m) (drop 6 bytes)) (rowBytes (P .k) (P .m) (P .model))) after r;
       start = omega (arith, r .within, h .within, length-drop 6 bytes);
       records =
-          sym (drop-drop (P .m * (2 + 2 * P .k)) 6 bytes) ∙ sym (r .after) ∙ w .0
+          sym after ∙ w .0
           ∙ ap (λ (l : List ℕ). wordsBytes AW (P .reaching) ++ l) (v .0 ∙ ap (λ (l : List ℕ). wordsBytes CW (P .columns) ++ l) (s .0 ∙ ap (λ (l : List ℕ). SM ++ l) (append-nil (P .stateMap))));
-      reaching-many = w .1;
-      columns-many = v .1;
-      states-many = s .1;
+      reaching = (w .1, w .2);
+      columns = (v .1, v .2);
+      states = (s .1, s .2);
+      end = p .end;
     }
 
 module _ (bytes : List ℕ) (P : Proof) (rest : List ℕ) (e : proofSheet bytes ≡ good P rest) where
@@ -79,19 +87,65 @@ module _ (bytes : List ℕ) (P : Proof) (rest : List ℕ) (e : proofSheet bytes 
   pub reaching-records : Records AW bytes (P .reaching) (6 + P .m * (2 + 2 * P .k)) (P .m) (wordsBytes CW (P .columns) ++ (SM ++ P .stateMap))
   reaching-records =
       let l = laid bytes P rest e in
-      records 0x41 0x57 bytes (P .reaching) (6 + P .m * (2 + 2 * P .k)) (P .m) (wordsBytes CW (P .columns) ++ (SM ++ P .stateMap)) (l .start) (l .records) (l .reaching-many)
+      records 0x41 0x57 bytes (P .reaching) (6 + P .m * (2 + 2 * P .k)) (P .m) (wordsBytes CW (P .columns) ++ (SM ++ P .stateMap)) (l .start) (l .records) (l .reaching .0)
 
   -- after them those of the columns
   pub column-records : Records CW bytes (P .columns) (reachingPlace P (P .m)) (P .c) (SM ++ P .stateMap)
   unfolding reachingPlace
   column-records =
       let r = reaching-records in
-      records 0x43 0x57 bytes (P .columns) (reachingPlace P (P .m)) (P .c) (SM ++ P .stateMap) (r .places (P .m) (omega arith) .1) (r .left) (laid bytes P rest e .columns-many)
+      records 0x43 0x57 bytes (P .columns) (reachingPlace P (P .m)) (P .c) (SM ++ P .stateMap) (r .places (P .m) (omega arith) .1) (r .left) (laid bytes P rest e .columns .0)
 
   -- after them the state map, to the end of the sheet
   pub map-lies : drop (mapPlace P) bytes ≡ SM ++ P .stateMap
   unfolding mapPlace
   map-lies = column-records .left
+
+  pub map-ends : mapPlace P + (2 + P .n) ≡ length bytes
+  unfolding mapPlace columnPlace
+  map-ends =
+      let r = column-records .places (P .c) (omega arith) in
+      omega (arith, r .1, laid bytes P rest e .states .0, sym (length-drop (mapPlace P) bytes) ∙ ap length map-lies)
+
+  -- the model state of machine state s
+  pub map-at : (s : ℕ) → getD bytes (mapPlace P + (2 + s)) 0 ≡ getD (P .stateMap) s 0
+  map-at s = sym (getD-drop (mapPlace P) bytes (2 + s) 0) ∙ ap (λ (l : List ℕ). getD l (2 + s) 0) map-lies ∙ getD-append-add SM (P .stateMap) s 0
+
+-- ---- the words of the model, where they stand
+word-drop : (n i j : ℕ) (bytes : List ℕ) → n + i ≡ j → wordAt (drop n bytes) i ≡ wordAt bytes j
+word-drop n i j bytes e =
+    let f : n + (i + 1) ≡ j + 1 = omega arith in
+    rw (getD-drop n bytes (i + 1) 0, getD-drop n bytes i 0, e, f) refl
+
+pair-word-at : (k : ℕ) (bytes : List ℕ) (a : ℕ) → a < k → getD (pairWords k bytes) a 0 ≡ wordAt bytes (2 * a)
+unfolding pairWords
+pair-word-at zero bytes a h = absurd (not-suc-le-zero h)
+pair-word-at (suc k) bytes zero h = refl
+pair-word-at (suc k) bytes (suc a) h = pair-word-at k (drop 2 bytes) a (le-of-suc-le-suc h) ∙ word-drop 2 (2 * a) (2 * suc a) bytes (omega arith)
+
+row-word-at : (k r : ℕ) (bytes : List ℕ) (s a : ℕ) → s < r → a < k → getD (rowWords k r bytes) (s * k + a) 0 ≡ wordAt bytes (s * (2 + 2 * k) + (2 + 2 * a))
+unfolding rowWords
+row-word-at k zero bytes s a h l = absurd (not-suc-le-zero h)
+row-word-at k (suc r) bytes zero a h l =
+    let first : List ℕ = pairWords k (drop 2 bytes) in
+    let at : 0 * k + a ≡ a = omega (arith, zero-mul k) in
+    ap (λ (i : ℕ). getD (first ++ rowWords k r (drop (2 + 2 * k) bytes)) i 0) at
+    ∙ List·getD-append first (rowWords k r (drop (2 + 2 * k) bytes)) 0 a (omega (arith, pair-words-length k (drop 2 bytes)))
+    ∙ pair-word-at k (drop 2 bytes) a l ∙ word-drop 2 (2 * a) (0 * (2 + 2 * k) + (2 + 2 * a)) bytes (omega (arith, zero-mul (2 + 2 * k)))
+row-word-at k (suc r) bytes (suc s) a h l =
+    let first : List ℕ = pairWords k (drop 2 bytes) in
+    let at : suc s * k + a ≡ length first + (s * k + a) = omega (arith, pair-words-length k (drop 2 bytes), suc-mul s k) in
+    ap (λ (i : ℕ). getD (first ++ rowWords k r (drop (2 + 2 * k) bytes)) i 0) at
+    ∙ getD-append-add first (rowWords k r (drop (2 + 2 * k) bytes)) (s * k + a) 0
+    ∙ row-word-at k r (drop (2 + 2 * k) bytes) s a (le-of-suc-le-suc h) l
+    ∙ word-drop (2 + 2 * k) (s * (2 + 2 * k) + (2 + 2 * a)) (suc s * (2 + 2 * k) + (2 + 2 * a)) bytes (omega (arith, suc-mul s (2 + 2 * k)))
+
+-- the output and the next state of model state s on letter a are the two bytes at 6 + s·(2 + 2k) + 2 + 2a
+pub model-at : (bytes : List ℕ) (P : Proof) (rest : List ℕ) → proofSheet bytes ≡ good P rest → (s a : ℕ) → s < P .m → a < P .k
+    → getD (P .model) (s * P .k + a) 0 ≡ wordAt bytes (6 + (s * (2 + 2 * P .k) + (2 + 2 * a)))
+model-at bytes P rest e s a h l =
+    ap (λ (words : List ℕ). getD words (s * P .k + a) 0) (laid bytes P rest e .model .is)
+    ∙ row-word-at (P .k) (P .m) (drop 6 bytes) s a h l ∙ word-drop 6 (s * (2 + 2 * P .k) + (2 + 2 * a)) (6 + (s * (2 + 2 * P .k) + (2 + 2 * a))) bytes refl
 
 -- ---- the AW record of a state, as the code finds it
 -- a sheet that is not refused says something
@@ -122,7 +176,7 @@ module _ (bytes : List ℕ) (h : Counts) (state : ℕ) (e : readProof bytes ≡ 
   read-in-range =
       let g = read-good bytes h e in
       let l = laid bytes (g .0) (g .1) (g .2) in
-      subst InRange (sym (l .read .said) ∙ g .3) (l .head .ranges)
+      subst InRange (sym (l .said) ∙ g .3) (l .head .ranges)
 
   pub aw-none : h .m ≤ state → (awRecord bytes state ≡ []) × (awPlace bytes state ≡ 0)
   unfolding awRecord awPlace

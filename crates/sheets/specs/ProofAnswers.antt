@@ -8,28 +8,20 @@ use Rattle.sheets.specs.declared.proofs.Step.the-variants as step
 use Rattle.sheets.specs.declared.proofs.ProofRead.{ProofRead}
 use Rattle.sheets.specs.declared.proofs.ProofRead.the-variants as proof
 use Rattle.sheets.specs.Proofs.{Counts}
-use Rattle.sheets.specs.ProofSteps.{clash}
+use Rattle.sheets.specs.ProofSteps.{clash, counts}
 
 abbrev pub stepped : Step → Answer ℕ
 stepped (step.Next place) = gives place
 stepped (step.Refused r) = refused (number r)
 
 abbrev pub readOf : ProofRead → Answer Counts
-readOf (proof.Read m k n c) = gives (record { m = m; k = k; n = n; c = c })
+readOf (proof.Read m k n c) = gives (counts m k n c)
 readOf (proof.Refused r) = refused (number r)
-
--- the values of an answer
-abbrev values : Answer Counts → Counts
-values (refused x) = record { m = 0; k = 0; n = 0; c = 0 }
-values (gives counts) = counts
 
 pub read-fixed : (x y : ProofRead) → readOf x ≡ readOf y → x ≡ y
 read-fixed (proof.Read m k n c) (proof.Read m′ k′ n′ c′) e =
-    let a : m ≡ m′ = ap (λ (x : Answer Counts). values x .m) e in
-    let b : k ≡ k′ = ap (λ (x : Answer Counts). values x .k) e in
-    let d : n ≡ n′ = ap (λ (x : Answer Counts). values x .n) e in
-    let f : c ≡ c′ = ap (λ (x : Answer Counts). values x .c) e in
-    cc
+    let s : counts m k n c ≡ counts m′ k′ n′ c′ = cc in
+    ap (λ (x : Counts). proof.Read (x .m) (x .k) (x .n) (x .c)) s
 read-fixed (proof.Read m k n c) (proof.Refused s) e = absurd (clash (sym e))
 read-fixed (proof.Refused r) (proof.Read m k n c) e = absurd (clash e)
 read-fixed (proof.Refused r) (proof.Refused s) e = let h : number r ≡ number s = cc in ap proof.Refused (number-inj r s h)

@@ -17,8 +17,8 @@ use Rattle.machine.specs.Lent.{allPass, lettersBelow}
 use Rattle.machine.specs.LentLaws.{within-both}
 use Rattle.sheets.specs.Reading.{Parsed, bad, good, Reader, pure, andThen, _>>=_, _>>_, demand, present, byte, grab, atEnd, mark, rows}
 use Rattle.sheets.specs.Proofs.{wordRecord, wordRecords, mapByte, proofSheet, Counts, countsOf, readProof}
-use Rattle.sheets.specs.Steps.{outcome, came-good, came-bad, bad-good, then-good, two, mark-were, Took, mark-took}
-use Rattle.sheets.specs.WordRecords.{letters, demand-met, word-were, words-were, words-first}
+use Rattle.sheets.specs.Steps.{outcome, came-good, came-bad, bad-good, then-good, demanded, two, mark-were, Took, mark-took}
+use Rattle.sheets.specs.WordRecords.{letters, word-were, words-were, words-first}
 
 -- ---- the parts of a proof sheet
 abbrev pub counts : ℕ → ℕ → ℕ → ℕ → Counts
@@ -258,6 +258,7 @@ module _ (bytes : List ℕ) (marked : outcome (mark PH bytes) ≡ gives tt) wher
 pub record Headed (bytes : List ℕ) : Type 0 where
   pub within : 6 ≤ length bytes
   pub is : header bytes ≡ good (countsAt bytes) (drop 6 bytes)
+  pub spelt : bytes ≡ PH ++ (getD bytes 2 0 ∷ getD bytes 3 0 ∷ getD bytes 4 0 ∷ getD bytes 5 0 ∷ drop 6 bytes)
   pub ranges : InRange (countsAt bytes)
 
 pub headed : (bytes : List ℕ) (g : Counts) (rest : List ℕ) → header bytes ≡ good g rest → Headed bytes
@@ -265,11 +266,16 @@ unfolding header
 headed bytes g rest e =
     let a = then-good (mark PH bytes) _ g rest e in
     let m = mark-were PH bytes (a .0) (a .1) (a .2) in
-    let b = demand-met (leb 4 (length (a .1))) 1 _ (a .1) g rest (a .3) in
+    let b = demanded (leb 4 (length (a .1))) 1 (a .1) _ g rest (a .3) in
     let l : 6 ≤ length bytes = omega (arith, leb-yes 4 (length (a .1)) (b .0), ap length (m .1) ∙ length-drop 2 bytes) in
     let o = header-opens bytes (ap outcome (a .2)) l in
-    let r = demand-met (inRange (countsAt bytes)) 3 (pure (countsAt bytes)) (drop 6 bytes) g rest (sym o ∙ e) in
-    record { within = l; is = o ∙ rw (r .0) refl; ranges = in-range (countsAt bytes) (r .0) }
+    let r = demanded (inRange (countsAt bytes)) 3 (drop 6 bytes) _ g rest (sym o ∙ e) in
+    record {
+      within = l;
+      is = o ∙ rw (r .0) refl;
+      spelt = sym (take-append-drop 2 bytes) ∙ ap₂ _++_ (m .2) (two bytes 2 (omega arith) ∙ ap {B = List ℕ} (λ (l : List ℕ). getD bytes 2 0 ∷ getD bytes 3 0 ∷ l) (two bytes 4 l));
+      ranges = in-range (countsAt bytes) (r .0);
+    }
 
 pub header-good : (bytes : List ℕ) → outcome (header bytes) ≡ gives tt → Headed bytes
 header-good bytes e = let g = came-good (header bytes) e in headed bytes (g .0) (g .1) (g .2)
@@ -280,8 +286,8 @@ unfolding mapRecord
 map-were m n bytes states rest e =
     let a = then-good (mark SM bytes) _ states rest e in
     let t = mark-were SM bytes (a .0) (a .1) (a .2) in
-    let b = demand-met (leb n (length (a .1))) 1 _ (a .1) states rest (a .3) in
-    let d = demand-met (allPass (mapByte m) (take n (a .1))) 4 _ (drop n (a .1)) states rest (b .1) in
+    let b = demanded (leb n (length (a .1))) 1 (a .1) _ states rest (a .3) in
+    let d = demanded (allPass (mapByte m) (take n (a .1))) 4 (drop n (a .1)) _ states rest (b .1) in
     let v : take n (a .1) ≡ states = cc in
     let r : drop n (a .1) ≡ rest = cc in (
       sym (take-append-drop 2 bytes) ∙ ap₂ _++_ (t .2) (sym (t .1) ∙ sym (take-append-drop n (a .1)) ∙ ap₂ _++_ v r),

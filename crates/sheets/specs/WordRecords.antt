@@ -15,8 +15,9 @@ use Rattle.rules.specs.Sheets.{wordBytes, wordsBytes}
 use Rattle.machine.specs.Lent.{lettersBelow}
 use Rattle.machine.specs.LentLaws.{within-both, letters-below, below-letters}
 use Rattle.sheets.specs.Reading.{Parsed, bad, good, Reader, pure, andThen, _>>=_, _>>_, demand, present, byte, grab, mark}
+use Rattle.sheets.specs.MachineLaws.{mark-read}
 use Rattle.sheets.specs.Proofs.{wordRecord, wordRecords}
-use Rattle.sheets.specs.Steps.{bad-good, then-good, mark-were}
+use Rattle.sheets.specs.Steps.{bad-good, then-good, demanded, mark-were}
 
 -- what a word of a record has: a length from low to high and letters below k
 abbrev pub Fits : ℕ → ℕ → ℕ → Word → Type 0
@@ -41,20 +42,14 @@ letters low high k size = do
   demand (lettersBelow k w) 6
   pure w
 
--- a step that came out good had its demand met
-pub demand-met : {A : Type 0} (t : Bool) (x : ℕ) (step : Reader A) (bytes : List ℕ) (a : A) (rest : List ℕ)
-    → andThen (demand t x bytes) (λ (u : Unit {0}). step) ≡ good a rest → (t ≡ true) × (step bytes ≡ good a rest)
-demand-met true x step bytes a rest e = (refl, e)
-demand-met false x step bytes a rest e = absurd (bad-good e)
-
 -- ---- what is read was written so
 letters-were : (low high k size : ℕ) (bytes w rest : List ℕ) → letters low high k size bytes ≡ good w rest
     → (size ≡ length w) × (bytes ≡ w ++ rest) × Fits low high k w
 unfolding letters
 letters-were low high k size bytes w rest e =
-    let a = demand-met (within low high size) 6 _ bytes w rest e in
-    let b = demand-met (leb size (length bytes)) 1 _ bytes w rest (a .1) in
-    let c = demand-met (lettersBelow k (take size bytes)) 6 _ (drop size bytes) w rest (b .1) in
+    let a = demanded (within low high size) 6 bytes _ w rest e in
+    let b = demanded (leb size (length bytes)) 1 bytes _ w rest (a .1) in
+    let c = demanded (lettersBelow k (take size bytes)) 6 (drop size bytes) _ w rest (b .1) in
     let v : take size bytes ≡ w = cc in
     let r : drop size bytes ≡ rest = cc in
     let l : size ≡ length w = sym (length-take-le size bytes (leb-yes size (length bytes) (b .0))) ∙ ap length v in
@@ -96,10 +91,6 @@ words-were due low high k (suc count) bytes words rest e =
     subst (λ (l : List Word). (bytes ≡ wordsBytes due l ++ rest) × (length l ≡ suc count) × AllFit low high k l) (sym v) (whole, ap suc (more .1), (first .1, more .2))
 
 -- ---- what is written is read back
-pub mark-read : (x y : ℕ) (rest : List ℕ) → mark (x ∷ y ∷ []) ((x ∷ y ∷ []) ++ rest) ≡ good tt rest
-unfolding mark
-mark-read x y rest = rw (le-yes 2 (suc (suc (length rest))) (omega arith), eqs-same (x ∷ y ∷ []))
-
 pub word-read : (x y low high k : ℕ) (w rest : List ℕ) → Fits low high k w → wordRecord (x ∷ y ∷ []) low high k (wordBytes (x ∷ y ∷ []) w ++ rest) ≡ good w rest
 unfolding wordRecord wordBytes
 word-read x y low high k w rest f =
