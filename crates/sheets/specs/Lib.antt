@@ -6,10 +6,13 @@ pub mod MachineSteps
 pub mod MachineAnswers
 pub mod MachineLaws
 pub mod Proofs
+pub mod ProofParts
 pub mod WordRecords
+pub mod WordSteps
 pub mod ProofSteps
 pub mod ProofAnswers
 pub mod Places
 pub mod ProofLaws
 pub mod Checker
 pub mod Cases
+pub mod ProofCases

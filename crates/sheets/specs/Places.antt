@@ -1,49 +1,25 @@
 -- Where the parts of a proof sheet lie: the model's rows from 6 on, then the records of the reaching words, those of the columns, and the
 -- state map.
-use mathlib.Core.Path.{_≡_, refl, sym, ap, ap₂, _∙_, subst}
-use mathlib.Core.Bool.{Bool, true, false}
-use mathlib.Core.List.{List, [], _∷_, _++_, append-assoc, append-nil}
-use Prim.Native.Nat.{ℕ, zero, suc, _+_, _*_, _-_, _≤_, _<_}
+use mathlib.Core.Path.{_≡_, refl, sym, ap, _∙_, subst}
+use mathlib.Core.Bool.{true}
+use mathlib.Core.List.{List, [], _++_, append-nil}
+use Prim.Native.Nat.{ℕ, zero, suc, _+_, _*_, _≤_, _<_}
 use native.Mathlib.Nat.{not-suc-le-zero, le-of-suc-le-suc, suc-mul, zero-mul}
 use native.Mathlib.Omega.{arith}
 use lib.ListN.{length, getD, take, drop, length-drop, List·getD-append}
 use lib.Seq.{drop-drop, getD-drop, getD-append-add}
-use lib.Dec.{ltb}
 use borrow.Author.Tests.{lt-ltb, le-ltb}
-use Rattle.rules.specs.Words.{Word}
-use Rattle.rules.specs.Answer.{Answer, refused, gives}
+use Rattle.rules.specs.Answer.{refused, gives}
 use Rattle.rules.specs.Sheets.{AW, CW, SM, Proof, rowBytes, wordBytes, wordsBytes}
 use Rattle.machine.specs.Lent.{allPass}
-use Rattle.sheets.specs.Reading.{Parsed, bad, good, andThen, rows}
+use Rattle.sheets.specs.Reading.{Parsed, bad, good, andThen}
 use Rattle.sheets.specs.Proofs.{mapByte, proofSheet, Counts, countsOf, readProof, recordOf, awRecord}
 use Rattle.sheets.specs.Standing.{wordAt, pairWords, rowWords, pair-words-length}
 use Rattle.sheets.specs.Steps.{then-good, Read, rows-were}
-use Rattle.sheets.specs.WordRecords.{AllFit, words-were, recordPlace, placeOf, Lies, Records, records}
-use Rattle.sheets.specs.ProofSteps.{clash, counts, InRange, header, body, sheet-parts, countsAt, Headed, headed, Parts, parts, map-were}
-
--- the record of the word that reaches state j
-unfoldable pub reachingPlace : Proof → ℕ → ℕ
-unfolding wordsBytes
-reachingPlace P j = placeOf AW (6 + P .m * (2 + 2 * P .k)) (P .reaching) j
-
--- the record of column j
-unfoldable pub columnPlace : Proof → ℕ → ℕ
-unfolding reachingPlace
-columnPlace P j = placeOf CW (reachingPlace P (P .m)) (P .columns) j
-
--- the mark of the state map, with its n bytes after it
-unfoldable pub mapPlace : Proof → ℕ
-unfolding columnPlace
-mapPlace P = columnPlace P (P .c)
-
--- where the AW record of a state lies in a sheet; 0, with no bytes, for a sheet that is refused or a state not below m
-abbrev pub placeIn : Parsed Proof → ℕ → ℕ
-placeIn (bad number) state = 0
-placeIn (good P rest) state = elim (ltb state (P .m)) [ false ↦ 0 | true ↦ reachingPlace P state ]
-
-unfoldable pub awPlace : List ℕ → ℕ → ℕ
-unfolding proofSheet reachingPlace
-awPlace bytes state = placeIn (proofSheet bytes) state
+use Rattle.sheets.specs.WordRecords.{AllFit, words-were, Lies, Records, records}
+use Rattle.sheets.specs.ProofParts.{counts, header, body, sheet-parts, recordPlace, reachingPlace, columnPlace, mapPlace, placeIn, awPlace}
+use Rattle.sheets.specs.WordSteps.{clash}
+use Rattle.sheets.specs.ProofSteps.{InRange, countsAt, Headed, headed, parts, map-were}
 
 -- ---- a sheet that was read
 -- its header and its parts: the words that stand in the model's rows, the bytes after them, and what each part has
@@ -111,6 +87,20 @@ module _ (bytes : List ℕ) (P : Proof) (rest : List ℕ) (e : proofSheet bytes 
   pub map-at : (s : ℕ) → getD bytes (mapPlace P + (2 + s)) 0 ≡ getD (P .stateMap) s 0
   map-at s = sym (getD-drop (mapPlace P) bytes (2 + s) 0) ∙ ap (λ (l : List ℕ). getD l (2 + s) 0) map-lies ∙ getD-append-add SM (P .stateMap) s 0
 
+-- ---- the AW record of a state below m: the record of the word that reaches it, at its place
+module _ (bytes : List ℕ) (P : Proof) (rest : List ℕ) (e : proofSheet bytes ≡ good P rest) (state : ℕ) (h : state < P .m) where
+  pub aw-record : awRecord bytes state ≡ wordBytes AW (getD (P .reaching) state [])
+  unfolding awRecord
+  aw-record = ap (λ (p : Parsed Proof). recordOf p state) e ∙ rw (lt-ltb state (P .m) h, recordOf) refl
+
+  pub aw-place : awPlace bytes state ≡ reachingPlace P state
+  unfolding awPlace
+  aw-place = ap (λ (p : Parsed Proof). placeIn p state) e ∙ rw (lt-ltb state (P .m) h, placeIn) refl
+
+  pub aw-lies : Lies AW (getD (P .reaching) state []) bytes (awPlace bytes state)
+  unfolding reachingPlace
+  aw-lies = subst (Lies AW (getD (P .reaching) state []) bytes) (sym aw-place) (reaching-records bytes P rest e .lie state h)
+
 -- ---- the words of the model, where they stand
 word-drop : (n i j : ℕ) (bytes : List ℕ) → n + i ≡ j → wordAt (drop n bytes) i ≡ wordAt bytes j
 word-drop n i j bytes e =
@@ -165,19 +155,15 @@ aw-refused bytes state x e = go (proofSheet bytes) e
     go (bad y) e = (refl, refl)
     go (good P rest) e = absurd (clash (sym e))
 
--- the record of a state below m
-pub record AwLies (bytes : List ℕ) (h : Counts) (state place : ℕ) : Type 0 where
+-- the record of a state below m, by the bytes
+pub record AwFound (bytes : List ℕ) (h : Counts) (state place : ℕ) : Type 0 where
+  pub ranges : InRange h
+  pub start : 6 + h .m * (2 + 2 * h .k) ≤ length bytes
   pub is : recordPlace bytes (6 + h .m * (2 + 2 * h .k)) state ≡ place
   pub within : place + (3 + getD bytes (place + 2) 0) ≤ length bytes
   pub part : take (3 + getD bytes (place + 2) 0) (drop place bytes) ≡ awRecord bytes state
 
 module _ (bytes : List ℕ) (h : Counts) (state : ℕ) (e : readProof bytes ≡ gives h) where
-  pub read-in-range : InRange h
-  read-in-range =
-      let g = read-good bytes h e in
-      let l = laid bytes (g .0) (g .1) (g .2) in
-      subst InRange (sym (l .said) ∙ g .3) (l .head .ranges)
-
   pub aw-none : h .m ≤ state → (awRecord bytes state ≡ []) × (awPlace bytes state ≡ 0)
   unfolding awRecord awPlace
   aw-none l =
@@ -186,23 +172,22 @@ module _ (bytes : List ℕ) (h : Counts) (state : ℕ) (e : readProof bytes ≡ 
       let t = le-ltb state (g .0 .m) (omega arith) in
       (ap (λ (p : Parsed Proof). recordOf p state) (g .2) ∙ rw (t, recordOf) refl, ap (λ (p : Parsed Proof). placeIn p state) (g .2) ∙ rw (t, placeIn) refl)
 
-  pub aw-lies : state < h .m → AwLies bytes h state (awPlace bytes state)
-  unfolding awRecord awPlace reachingPlace
-  aw-lies l =
+  pub aw-found : state < h .m → AwFound bytes h state (awPlace bytes state)
+  unfolding reachingPlace
+  aw-found l =
       let g = read-good bytes h e in
       found (g .0) (g .1) (g .2) (g .3)
     where
-      found : (P : Proof) (rest : List ℕ) → proofSheet bytes ≡ good P rest → counts (P .m) (P .k) (P .n) (P .c) ≡ h → AwLies bytes h state (awPlace bytes state)
+      found : (P : Proof) (rest : List ℕ) → proofSheet bytes ≡ good P rest → counts (P .m) (P .k) (P .n) (P .c) ≡ h → AwFound bytes h state (awPlace bytes state)
       found P rest g c =
-          let m : P .m ≡ h .m = ap (λ (h : Counts). h .m) c in
-          let t : ltb state (P .m) ≡ true = lt-ltb state (P .m) (omega arith) in
-          let r = reaching-records bytes P rest g in
-          let i = r .lie state (omega arith) in
-          let there : awPlace bytes state ≡ reachingPlace P state = ap (λ (p : Parsed Proof). placeIn p state) g ∙ rw (t, placeIn) refl in
-          let whole : awRecord bytes state ≡ wordBytes AW (getD (P .reaching) state []) = ap (λ (p : Parsed Proof). recordOf p state) g ∙ rw (t, recordOf) refl in
+          let b : state < P .m = omega (arith, ap (λ (h : Counts). h .m) c) in
+          let d = laid bytes P rest g in
+          let i = aw-lies bytes P rest g state b in
           let start : h .m * (2 + 2 * h .k) ≡ P .m * (2 + 2 * P .k) = ap (λ (h : Counts). h .m * (2 + 2 * h .k)) (sym c) in
-          rw there (record {
-            is = rw start (r .places state (omega arith) .0);
+          record {
+            ranges = subst InRange (sym (d .said) ∙ c) (d .head .ranges);
+            start = rw start (d .start);
+            is = rw start (reaching-records bytes P rest g .places state (omega arith) .0 ∙ sym (aw-place bytes P rest g state b));
             within = rw (i .size) (i .within);
-            part = rw (i .size) (i .whole ∙ sym whole);
-          })
+            part = rw (i .size) (i .whole ∙ sym (aw-record bytes P rest g state b));
+          }

@@ -1,7 +1,7 @@
 -- What is read was written so, and what is written is read back: proof sheets are written one way only. And what the reader has seen to.
 use mathlib.Core.Path.{_≡_, refl, sym, ap, _∙_, subst}
 use mathlib.Core.Logic.{_⊎_, inl, inr}
-use mathlib.Core.Bool.{Bool, true, false, _||_}
+use mathlib.Core.Bool.{true}
 use mathlib.Core.List.{List, [], _∷_, _++_}
 use Prim.Native.Nat.{ℕ, suc, _+_, _*_, _/_, _≤_, _<_}
 use native.Mathlib.Omega.{arith}
@@ -9,19 +9,20 @@ use lib.ListN.{length, getD, take, drop}
 use lib.Seq.{take-all}
 use lib.ListN.{drop-of-length-le}
 use lib.Arith.{digits-lt}
-use lib.Dec.{eqb, ltb, leb}
+use lib.Dec.{eqb, ltb}
 use Rattle.rules.specs.Tests.{or-split, eqb-true, ltb-yes, le-yes}
 use Rattle.rules.specs.Words.{Word, Below, below-drop}
 use Rattle.rules.specs.Answer.{within}
 use Rattle.rules.specs.Sheets.{PH, AW, CW, SM, Proof, rowBytes, wordBytes, wordsBytes, proofBytes}
 use Rattle.machine.specs.Lent.{allPass, nextBelow, Sound}
 use Rattle.machine.specs.LentLaws.{all-at}
-use Rattle.sheets.specs.Reading.{Parsed, good, andThen, mark, rows}
+use Rattle.sheets.specs.Reading.{Parsed, good, andThen}
 use Rattle.sheets.specs.Proofs.{wordRecords, mapByte, proofSheet, Counts, awRecord}
 use Rattle.sheets.specs.MachineLaws.{mark-read, rows-read}
 use Rattle.sheets.specs.WordRecords.{Fits, AllFit, fits-at, words-read}
-use Rattle.sheets.specs.ProofSteps.{counts, countsAt, InRange, header, mapRecord, body, sheet-parts}
-use Rattle.sheets.specs.Places.{Laid, laid, reachingPlace, reaching-records}
+use Rattle.sheets.specs.ProofParts.{counts, header, mapRecord, body, sheet-parts, awPlace}
+use Rattle.sheets.specs.ProofSteps.{InRange}
+use Rattle.sheets.specs.Places.{laid, aw-record, aw-lies}
 
 -- ---- what a sheet says that can be read: counts in range, and as many words of each kind as they say, each as it has to be
 pub record Readable (P : Proof) : Type 0 where
@@ -91,9 +92,13 @@ module _ (bytes : List ℕ) (P : Proof) (rest : List ℕ) (e : proofSheet bytes 
       ∙ ap {B = List ℕ} (λ (x : List ℕ). PH ++ (P .m ∷ P .k ∷ P .n ∷ P .c ∷ x)) (l .model .spelt (below-drop 256 6 bytes b) ∙ ap (λ (x : List ℕ). rowBytes (P .k) (P .m) (P .model) ++ x) (l .records))
 
   -- the AW record of a state: the bytes at its place are the mark, the length and the letters of its word
-  pub aw-there : (state : ℕ) → state < P .m → take (3 + length (getD (P .reaching) state [])) (drop (reachingPlace P state) bytes) ≡ wordBytes AW (getD (P .reaching) state [])
-  unfolding reachingPlace
-  aw-there state h = reaching-records bytes P rest e .lie state h .whole
+  pub aw-there : (state : ℕ) → state < P .m → let w = getD (P .reaching) state [] in
+      (awRecord bytes state ≡ wordBytes AW w) × (take (length (wordBytes AW w)) (drop (awPlace bytes state) bytes) ≡ wordBytes AW w)
+  unfolding wordBytes
+  aw-there state h =
+      let w : Word = getD (P .reaching) state [] in
+      let n : 3 + length w ≡ suc (suc (suc (length w))) = omega arith in
+      (aw-record bytes P rest e state h, rw n at (aw-lies bytes P rest e state h .whole))
 
 -- so no two sheets say the same
 pub one-way : (bytes other rest rest′ : List ℕ) (P : Proof) → Below 256 bytes → Below 256 other → proofSheet bytes ≡ good P rest → proofSheet other ≡ good P rest′ → bytes ≡ other

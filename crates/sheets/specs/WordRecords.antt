@@ -1,22 +1,23 @@
 -- Records of words (AW, CW): what is read was written so, what is written is read back, and where each of them lies in the sheet.
 use mathlib.Core.Path.{_≡_, refl, sym, ap, ap₂, _∙_, subst}
-use mathlib.Core.Bool.{Bool, true, false, _&&_}
+use mathlib.Core.Bool.{true}
 use mathlib.Core.List.{List, [], _∷_, _++_, append-assoc}
-use Prim.Native.Nat.{ℕ, zero, suc, _+_, _*_, _-_, _≤_, _<_}
+use Prim.Native.Nat.{ℕ, zero, suc, _+_, _-_, _≤_, _<_}
 use native.Mathlib.Nat.{not-suc-le-zero, le-of-suc-le-suc}
 use native.Mathlib.Omega.{arith}
-use lib.ListN.{length, getD, take, drop, length-append, length-drop, length-take, take-append-drop, drop-of-length-le}
-use lib.Seq.{drop-cons, drop-drop, take-at, drop-at, getD-drop, length-take-le, take-length, take-append-seam, drop-append-seam}
-use lib.Dec.{eqb, ltb, leb}
-use Rattle.rules.specs.Tests.{eqs, eqs-same, leb-yes, le-yes}
+use lib.ListN.{length, getD, take, drop, length-append, length-drop, take-append-drop, drop-of-length-le}
+use lib.Seq.{drop-cons, drop-drop, take-at, drop-at, getD-drop, length-take-le, take-append-seam, drop-append-seam}
+use lib.Dec.{leb}
+use Rattle.rules.specs.Tests.{leb-yes, le-yes}
 use Rattle.rules.specs.Words.{Word, Below}
 use Rattle.rules.specs.Answer.{within}
 use Rattle.rules.specs.Sheets.{wordBytes, wordsBytes}
 use Rattle.machine.specs.Lent.{lettersBelow}
 use Rattle.machine.specs.LentLaws.{within-both, letters-below, below-letters}
-use Rattle.sheets.specs.Reading.{Parsed, bad, good, Reader, pure, andThen, _>>=_, _>>_, demand, present, byte, grab, mark}
+use Rattle.sheets.specs.Reading.{Parsed, good, pure, andThen, _>>=_, _>>_, byte, mark}
 use Rattle.sheets.specs.MachineLaws.{mark-read}
 use Rattle.sheets.specs.Proofs.{wordRecord, wordRecords}
+use Rattle.sheets.specs.ProofParts.{letters, recordPlace, placeOf}
 use Rattle.sheets.specs.Steps.{bad-good, then-good, demanded, mark-were}
 
 -- what a word of a record has: a length from low to high and letters below k
@@ -31,16 +32,6 @@ pub fits-at : (low high k : ℕ) (words : List Word) (j : ℕ) → AllFit low hi
 fits-at low high k [] j f h = absurd (not-suc-le-zero h)
 fits-at low high k (w ∷ words) zero f h = f .0
 fits-at low high k (w ∷ words) (suc j) f h = fits-at low high k words j (f .1) (le-of-suc-le-suc h)
-
--- the record after its mark and its length
-unfoldable pub letters : ℕ → ℕ → ℕ → ℕ → Reader Word
-unfolding lettersBelow
-letters low high k size = do
-  demand (within low high size) 6
-  present size
-  w ← grab size
-  demand (lettersBelow k w) 6
-  pure w
 
 -- ---- what is read was written so
 letters-were : (low high k size : ℕ) (bytes w rest : List ℕ) → letters low high k size bytes ≡ good w rest
@@ -115,11 +106,6 @@ words-read x y low high k (w ∷ words) rest f =
     ∙ ap (λ (p : Parsed (List Word)). andThen p (λ more. pure (w ∷ more))) (words-read x y low high k words rest (f .1))
 
 -- ---- where records lie
--- the place of the record number j, counted from the record at a place: each has a mark, a length and that many letters
-unfoldable pub recordPlace : List ℕ → ℕ → ℕ → ℕ
-recordPlace bytes at zero = at
-recordPlace bytes at (suc j) = recordPlace bytes (at + (3 + getD bytes (at + 2) 0)) j
-
 -- a word's record at a place of the sheet
 pub record Lies (due w bytes : List ℕ) (place : ℕ) : Type 0 where
   pub within : place + (3 + length w) ≤ length bytes
@@ -167,10 +153,6 @@ module _ (x y : ℕ) (bytes : List ℕ) where
         within = omega (arith, next, p .within);
       }
 
--- the place of the record number j, by the words before it
-abbrev pub placeOf : List ℕ → ℕ → List Word → ℕ → ℕ
-placeOf due at words j = at + length (wordsBytes due (take j words))
-
 -- all records of a list of words that stands at a place
 pub record Records (due : List ℕ) (bytes : List ℕ) (words : List Word) (at count : ℕ) (rest : List ℕ) : Type 0 where
   pub places : (j : ℕ) → j ≤ count → (recordPlace bytes at j ≡ placeOf due at words j) × (placeOf due at words j ≤ length bytes)
@@ -196,22 +178,3 @@ records x y bytes words at count rest low e many =
           let q = p count (omega arith) in
           ap (λ (i : ℕ). drop i bytes) (sym (q .place)) ∙ q .left ∙ ap (λ (l : List Word). wordsBytes due l ++ rest) none;
     }
-
--- ---- one record after the other, as the code passes them
-pub place-more : (bytes : List ℕ) (at j : ℕ) → at ≤ recordPlace bytes at j
-unfolding recordPlace
-place-more bytes at zero = omega arith
-place-more bytes at (suc j) = let h = place-more bytes (at + (3 + getD bytes (at + 2) 0)) j in omega arith
-
-pub place-next : (bytes : List ℕ) (at left : ℕ) → 0 < left → recordPlace bytes at left ≡ recordPlace bytes (at + (3 + getD bytes (at + 2) 0)) (left - 1)
-unfolding recordPlace
-place-next bytes at zero h = absurd (omega arith)
-place-next bytes at (suc left) h = let m : suc left - 1 ≡ left = omega arith in rw m
-
--- a record that is passed lies within what the last one lies within
-pub place-within : (bytes : List ℕ) (at left n : ℕ) → 0 < left → recordPlace bytes at left ≤ n → at + (3 + getD bytes (at + 2) 0) ≤ n
-place-within bytes at left n h l = omega (arith, place-next bytes at left h, place-more bytes (at + (3 + getD bytes (at + 2) 0)) (left - 1))
-
-pub place-end : (bytes : List ℕ) (at : ℕ) → recordPlace bytes at 0 ≡ at
-unfolding recordPlace
-place-end bytes at = refl

@@ -1,15 +1,13 @@
 // Reading a proof sheet, and the AW record of a state. A step is checked where it stands and answers where the next one begins.
 ghost use mathlib.Core.Path.{_≡_};
 ghost use mathlib.Core.List.{_∷_, []};
-ghost use Prim.Native.Nat.{ℕ, _+_, _*_, _≤_};
+ghost use Prim.Native.Nat.{_+_, _*_, _≤_};
 ghost use lib.ListN.{length, getD, drop};
 ghost use Rattle.machine.specs.Answers.{checked};
 ghost use Rattle.machine.specs.Lent.{allPass};
-ghost use Rattle.sheets.specs.Proofs.{Counts, mapByte, wordRecord, wordRecords, readProof, awRecord};
+ghost use Rattle.sheets.specs.Proofs.{mapByte, wordRecord, wordRecords, readProof, awRecord};
 ghost use Rattle.sheets.specs.Steps.{outcome};
-ghost use Rattle.sheets.specs.WordRecords.{letters, recordPlace};
-ghost use Rattle.sheets.specs.ProofSteps.{after, counts, inRange, header, mapRecord, body};
-ghost use Rattle.sheets.specs.Places.{awPlace};
+ghost use Rattle.sheets.specs.ProofParts.{counts, inRange, letters, header, mapRecord, body, after, recordPlace, awPlace};
 ghost use Rattle.sheets.specs.ProofAnswers.{stepped, readOf};
 use crate::reading;
 use machine::Checked;
@@ -55,7 +53,7 @@ fn letters_check(bytes: &[u8], at: usize, size: usize, low: usize, high: usize, 
 }
 
 // One record of a word: its mark, its length (absent: 1), its letters.
-pub fn word_check(bytes: &[u8], at: usize, due: &[u8; 2], low: usize, high: usize, k: usize) -> Step
+fn word_check(bytes: &[u8], at: usize, due: &[u8; 2], low: usize, high: usize, k: usize) -> Step
     requires { ⌜ at ≤ length (now bytes) ⌝ }
     ensures { λ r. ⌜ stepped r ≡ after (now (bytes .entry)) (wordRecord (getD (now (due .entry)) 0 0 ∷ getD (now (due .entry)) 1 0 ∷ []) low high k (drop at (now (bytes .entry)))) ⌝ }
 {
@@ -71,7 +69,7 @@ pub fn word_check(bytes: &[u8], at: usize, due: &[u8; 2], low: usize, high: usiz
 }
 
 // `count` records of words, one after the other.
-pub fn words_check(
+fn words_check(
     bytes: &[u8],
     at: usize,
     due: &[u8; 2],
@@ -191,7 +189,7 @@ fn header_check(bytes: &[u8]) -> Checked
 
 // What follows the header: rows, reaching words, columns, the state map, and no byte left over (5).
 fn body_check(bytes: &[u8], m: usize, k: usize, n: usize, c: usize) -> Step
-    requires { ⌜ (6 ≤ length (now bytes)) × (m ≤ 48) × (k ≤ 12) ⌝ }
+    requires { ⌜ (6 ≤ length (now bytes)) × (k ≤ 12) ⌝ }
     ensures { λ r. ⌜ stepped r ≡ after (now (bytes .entry)) (body (counts m k n c) (drop 6 (now (bytes .entry)))) ⌝ }
 {
     let model = reading::rows_check(bytes, 6, m, k, m);
@@ -256,7 +254,7 @@ pub fn aw_record<'a>(sheet: &'a [u8], state: usize) -> &'a [u8]
     ensures { λ r. ⌜ (r .ptr .0 ≡ sheet .entry .ptr .0) × (r .ptr .1 ≡ awPlace (now (sheet .entry)) state + sheet .entry .ptr .1) ⌝ }
 {
     let r = read(sheet);
-    let ProofRead::Read { m, k, n, c } = r else {
+    let ProofRead::Read { m, k, .. } = r else {
         return &sheet[0..0];
     };
     if m <= state {

@@ -1,23 +1,16 @@
-use native.Mathlib.Nat.{mul-le-mul}
 use mathlib.Core.Path.{subst}
 use Rattle.rules.specs.Answer.{gives}
 use Rattle.sheets.specs.Proofs.{Counts, readProof}
 use Rattle.sheets.specs.ProofAnswers.{readOf}
-use Rattle.sheets.specs.ProofSteps.{counts}
-use Rattle.sheets.specs.WordRecords.{place-more}
-use Rattle.sheets.specs.Places.{awPlace, AwLies, read-in-range, aw-refused, aw-none, aw-lies}
+use Rattle.sheets.specs.Places.{AwFound, aw-refused, aw-none, aw-found}
 use native.Mathlib.Omega.{arith}
 use mathlib.Core.Path.{_≡_, refl, sym, ap, _∙_}
-use Prim.Native.Nat.{ℕ, _+_, _*_, _-_, _/_, _%_, _<_, _≤_}
-use lib.ListN.{length, getD, take, drop, set}
+use Prim.Native.Nat.{ℕ, _+_, _-_}
+use lib.ListN.{getD, take, drop}
 use borrow.Author.Needs.{needs}
+use Rattle.sheets.specs.ProofParts.{counts, awPlace}
 use Rattle.sheets.proofs.proofs.aw_record.Statement.{statement}
 use Rattle.sheets.proofs.proofs.aw_record.Tie as tie
-use Rattle.sheets.proofs.proofs.aw_record.Reads as reads
-use Rattle.sheets.proofs.proofs.aw_record.Lts as lts
-use Rattle.machine.proofs.wide.Reads as wide-reads
-use Rattle.sheets.proofs.proofs.read.Reads as read-reads
-use Rattle.sheets.proofs.proofs.record_place.Reads as record-place-reads
 
 -- what reading said
 abbrev said : (c : tie.After-known-told) → Counts
@@ -27,15 +20,15 @@ was-read : (c : tie.After-known-told) → readProof (c .before .before .before .
 was-read c = sym (c .before .before .before .read .ensures) ∙ ap readOf (c .before .r .given .1)
 
 -- the record lies in the sheet
-there : (c : tie.Else1) → let a = c .before .before .before .before .before .before .args in AwLies (a .sheet .now) (said (c .before)) (a .state) (awPlace (a .sheet .now) (a .state))
-there c = let a = c .before .before .before .before .before .before .args in aw-lies (a .sheet .now) (said (c .before)) (a .state) (was-read (c .before)) (c .if1 .left)
+there : (c : tie.Else1) → let a = c .before .before .before .before .before .before .args in AwFound (a .sheet .now) (said (c .before)) (a .state) (awPlace (a .sheet .now) (a .state))
+there c = let a = c .before .before .before .before .before .before .args in aw-found (a .sheet .now) (said (c .before)) (a .state) (was-read (c .before)) (c .if1 .left)
 
--- and is found
+-- and is found there
 found : (c : tie.After-record-place) → c .record-place .result ≡ awPlace (c .before .before .before .before .before .before .before .args .sheet .now) (c .before .before .before .before .before .before .before .args .state)
 found c = c .record-place .ensures ∙ there (c .before) .is
 
-whole : (c : tie.After-record-place) → let a = c .before .before .before .before .before .before .before .args in AwLies (a .sheet .now) (said (c .before .before)) (a .state) (c .record-place .result)
-whole c = let a = c .before .before .before .before .before .before .before .args in subst (AwLies (a .sheet .now) (said (c .before .before)) (a .state)) (sym (found c)) (there (c .before))
+whole : (c : tie.After-record-place) → let a = c .before .before .before .before .before .before .before .args in AwFound (a .sheet .now) (said (c .before .before)) (a .state) (c .record-place .result)
+whole c = let a = c .before .before .before .before .before .before .before .args in subst (AwFound (a .sheet .now) (said (c .before .before)) (a .state)) (sym (found c)) (there (c .before))
 
 read-requires : tie.Need-read-requires
 read-requires c κs = search needs
@@ -56,7 +49,10 @@ part-result-end : tie.Need-part-result-end
 part-result-end c = search needs
 
 returns : tie.Need-returns
-returns c = let a = c .before .before .before .before .before .args in let z = aw-refused (a .sheet .now) (a .state) _ (sym (c .before .before .before .read .ensures) ∙ ap readOf (c .before .enum-told .given .1)) in (sym (z .0), (refl, rw (z .1) (search needs)))
+returns c =
+    let a = c .before .before .before .before .before .args in
+    let z = aw-refused (a .sheet .now) (a .state) _ (sym (c .before .before .before .read .ensures) ∙ ap readOf (c .before .enum-told .given .1)) in
+    (sym (z .0), (refl, rw (z .1) (search needs)))
 
 sub-result-2 : tie.Need-sub-result-2
 sub-result-2 c = search needs
@@ -68,19 +64,22 @@ part-result-end-2 : tie.Need-part-result-end-2
 part-result-end-2 c = search needs
 
 returns-2 : tie.Need-returns-2
-returns-2 c = let a = c .before .before .before .before .before .before .before .args in let z = aw-none (a .sheet .now) (said (c .before .before)) (a .state) (was-read (c .before .before)) (c .before .if1 .taken) in (sym (z .0), (refl, rw (z .1) (search needs)))
+returns-2 c =
+    let a = c .before .before .before .before .before .before .before .args in
+    let z = aw-none (a .sheet .now) (said (c .before .before)) (a .state) (was-read (c .before .before)) (c .before .if1 .taken) in
+    (sym (z .0), (refl, rw (z .1) (search needs)))
 
 mul-record-place : tie.Need-mul-record-place
-mul-record-place c = omega (arith, read-in-range (c .before .before .before .before .before .before .args .sheet .now) (said (c .before)) (c .before .before .before .before .before .before .args .state) (was-read (c .before)) .k-high)
+mul-record-place c = omega (arith, there c .ranges .k-high)
 
 add-record-place : tie.Need-add-record-place
-add-record-place c = omega (arith, read-in-range (c .before .before .before .before .before .before .args .sheet .now) (said (c .before)) (c .before .before .before .before .before .before .args .state) (was-read (c .before)) .k-high)
+add-record-place c = omega (arith, there c .ranges .k-high)
 
 mul-record-place-2 : tie.Need-mul-record-place-2
-mul-record-place-2 c = let a = c .before .before .before .before .before .before .args in let t = there c in let p = place-more (a .sheet .now) (6 + said (c .before) .m * (2 + 2 * said (c .before) .k)) (a .state) in omega (arith, t .is, t .within)
+mul-record-place-2 c = omega (arith, there c .start)
 
 add-record-place-2 : tie.Need-add-record-place-2
-add-record-place-2 c = let a = c .before .before .before .before .before .before .args in let t = there c in let p = place-more (a .sheet .now) (6 + said (c .before) .m * (2 + 2 * said (c .before) .k)) (a .state) in omega (arith, t .is, t .within)
+add-record-place-2 c = omega (arith, there c .start)
 
 record-place-requires : tie.Need-record-place-requires
 record-place-requires c κs = let t = there c in omega (arith, t .is, t .within)
@@ -110,7 +109,11 @@ part-result-end-3 : tie.Need-part-result-end-3
 part-result-end-3 c = omega (arith, whole (c .before .before) .within, c .wide .ensures)
 
 returns-3 : tie.Need-returns-3
-returns-3 c = let at = c .before .before .before .record-place .result in let n : at + 3 + c .before .wide .result - at ≡ 3 + getD (c .before .before .before .before .before .before .before .before .before .before .args .sheet .now) (at + 2) 0 = omega (arith, c .before .wide .ensures) in (rw n (whole (c .before .before .before) .part), (refl, ap (λ (i : ℕ). i + c .before .before .before .before .before .before .before .before .before .before .args .sheet .ptr .1) (found (c .before .before .before))))
+returns-3 c =
+    let a = c .before .before .before .before .before .before .before .before .before .before .args in
+    let at = c .before .before .before .record-place .result in
+    let n : at + 3 + c .before .wide .result - at ≡ 3 + getD (a .sheet .now) (at + 2) 0 = omega (arith, c .before .wide .ensures) in
+    (ap (λ (i : ℕ). take i (drop at (a .sheet .now))) n ∙ whole (c .before .before .before) .part, (refl, ap (λ (i : ℕ). i + a .sheet .ptr .1) (found (c .before .before .before))))
 
 pub aw-record-spec : {M : Type 1} → statement M
 aw-record-spec =

@@ -1,23 +1,19 @@
-use native.Mathlib.Nat.{mul-le-mul}
 use Rattle.rules.specs.Sheets.{AW, CW}
 use Rattle.machine.specs.Answers.{checked}
 use Rattle.sheets.specs.Reading.{rows}
 use Rattle.sheets.specs.Proofs.{wordRecords}
 use Rattle.sheets.specs.Steps.{rows-took}
 use Rattle.sheets.specs.ProofAnswers.{stepped}
-use Rattle.sheets.specs.ProofSteps.{counts, mapRecord, Went, took-went, words-went, map-went, body-model, body-reaching, body-columns, body-map, body-left-over, body-end}
+use Rattle.sheets.specs.ProofSteps.{map-went, body-model, body-reaching, body-columns, body-map, body-left-over, body-end}
 use native.Mathlib.Omega.{arith}
-use mathlib.Core.Path.{_≡_, refl, sym, ap, _∙_}
-use Prim.Native.Nat.{ℕ, _+_, _*_, _-_, _/_, _%_, _<_, _≤_}
-use lib.ListN.{length, getD, take, drop, set}
+use mathlib.Core.Path.{sym, ap, _∙_}
+use Prim.Native.Nat.{_+_, _*_}
+use lib.ListN.{drop}
 use borrow.Author.Needs.{needs}
+use Rattle.sheets.specs.ProofParts.{counts, mapRecord}
+use Rattle.sheets.specs.WordSteps.{Went, took-went, words-went}
 use Rattle.sheets.proofs.proofs.body_check.Statement.{statement}
 use Rattle.sheets.proofs.proofs.body_check.Tie as tie
-use Rattle.sheets.proofs.proofs.body_check.Reads as reads
-use Rattle.sheets.proofs.proofs.body_check.Lts as lts
-use Rattle.sheets.proofs.proofs.map_check.Reads as map-check-reads
-use Rattle.sheets.proofs.proofs.words_check.Reads as words-check-reads
-use Rattle.sheets.proofs.reading.rows_check.Reads as rows-check-reads
 
 -- the steps that came out good, and where each leaves the sheet
 modelled : (c : tie.After-enum-told) → let a = c .before .before .before .before .args in Went (rows (a .m) (a .k) (a .m) (drop 6 (a .bytes .now))) (a .bytes .now) (6 + a .m * (2 + 2 * a .k))

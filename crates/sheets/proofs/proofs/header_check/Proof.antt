@@ -4,19 +4,12 @@ use Rattle.rules.specs.Sheets.{PH}
 use Rattle.machine.specs.Answers.{checked}
 use Rattle.sheets.specs.Reading.{mark}
 use Rattle.sheets.specs.Steps.{outcome}
-use Rattle.sheets.specs.ProofSteps.{inRange, countsAt, header-refused, header-short, header-judged}
-use native.Mathlib.Omega.{arith}
-use mathlib.Core.Path.{_≡_, refl, sym, ap, _∙_}
-use Prim.Native.Nat.{ℕ, _+_, _*_, _-_, _/_, _%_, _<_, _≤_}
-use lib.ListN.{length, getD, take, drop, set}
+use Rattle.sheets.specs.ProofSteps.{countsAt, header-refused, header-short, header-judged}
+use mathlib.Core.Path.{_≡_, sym, ap, _∙_}
 use borrow.Author.Needs.{needs}
+use Rattle.sheets.specs.ProofParts.{inRange}
 use Rattle.sheets.proofs.proofs.header_check.Statement.{statement}
 use Rattle.sheets.proofs.proofs.header_check.Tie as tie
-use Rattle.sheets.proofs.proofs.header_check.Reads as reads
-use Rattle.sheets.proofs.proofs.header_check.Lts as lts
-use Rattle.machine.proofs.wide.Reads as wide-reads
-use Rattle.sheets.proofs.proofs.in_range.Reads as in-range-reads
-use Rattle.sheets.proofs.reading.mark_check.Reads as mark-check-reads
 
 -- the mark came out good
 marked : (c : tie.After-enum-told) → outcome (mark PH (c .before .before .before .before .before .args .bytes .now)) ≡ gives tt

@@ -1,14 +1,7 @@
 use borrow.Author.Tests.{le-leb, lt-leb}
-use Rattle.sheets.specs.ProofSteps.{inRange}
-use borrow.Author.Needs.{needs}
-use native.Mathlib.Omega.{arith}
-use mathlib.Core.Path.{_≡_, refl, sym, ap, _∙_}
-use Prim.Native.Nat.{ℕ, _+_, _*_, _-_, _/_, _%_, _<_, _≤_}
-use lib.ListN.{length, getD, take, drop, set}
+use Rattle.sheets.specs.ProofParts.{inRange}
 use Rattle.sheets.proofs.proofs.in_range.Statement.{statement}
 use Rattle.sheets.proofs.proofs.in_range.Tie as tie
-use Rattle.sheets.proofs.proofs.in_range.Reads as reads
-use Rattle.sheets.proofs.proofs.in_range.Lts as lts
 
 returns : tie.Need-returns
 unfolding inRange

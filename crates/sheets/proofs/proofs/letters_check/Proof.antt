@@ -1,17 +1,12 @@
 use mathlib.Core.Bool.{true, false}
 use borrow.Author.Tests.{le-leb, lt-leb}
-use Rattle.sheets.specs.WordRecords.{letters}
-use Rattle.sheets.specs.ProofSteps.{letters-absent, letters-judged}
 use native.Mathlib.Omega.{arith}
-use mathlib.Core.Path.{_≡_, refl, sym, ap, _∙_}
-use Prim.Native.Nat.{ℕ, _+_, _*_, _-_, _/_, _%_, _<_, _≤_}
-use lib.ListN.{length, getD, take, drop, set}
+use mathlib.Core.Path.{sym, _∙_}
 use borrow.Author.Needs.{needs}
+use Rattle.sheets.specs.ProofParts.{letters}
+use Rattle.sheets.specs.WordSteps.{letters-absent, letters-judged}
 use Rattle.sheets.proofs.proofs.letters_check.Statement.{statement}
 use Rattle.sheets.proofs.proofs.letters_check.Tie as tie
-use Rattle.sheets.proofs.proofs.letters_check.Reads as reads
-use Rattle.sheets.proofs.proofs.letters_check.Lts as lts
-use Rattle.machine.proofs.letters_below.Reads as letters-below-reads
 
 returns : tie.Need-returns
 unfolding letters

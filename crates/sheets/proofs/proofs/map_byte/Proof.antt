@@ -1,14 +1,7 @@
 use borrow.Author.Tests.{lt-ltb, le-ltb}
-use native.Mathlib.Omega.{arith}
-use mathlib.Core.Path.{_≡_, refl, sym, ap, _∙_}
-use Prim.Native.Nat.{ℕ, _+_, _*_, _-_, _/_, _%_, _<_, _≤_}
-use lib.ListN.{length, getD, take, drop, set}
 use borrow.Author.Needs.{needs}
 use Rattle.sheets.proofs.proofs.map_byte.Statement.{statement}
 use Rattle.sheets.proofs.proofs.map_byte.Tie as tie
-use Rattle.sheets.proofs.proofs.map_byte.Reads as reads
-use Rattle.sheets.proofs.proofs.map_byte.Lts as lts
-use Rattle.machine.proofs.wide.Reads as wide-reads
 
 wide-requires : tie.Need-wide-requires
 wide-requires c κs = search needs

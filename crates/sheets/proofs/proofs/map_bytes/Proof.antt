@@ -3,15 +3,11 @@ use Rattle.machine.specs.Lent.{allPass}
 use Rattle.machine.specs.LentLaws.{all-passes, all-fails, all-ends}
 use Rattle.sheets.specs.Proofs.{mapByte}
 use borrow.Author.Needs.{needs}
-use native.Mathlib.Omega.{arith}
-use mathlib.Core.Path.{_≡_, refl, sym, ap, _∙_}
-use Prim.Native.Nat.{ℕ, _+_, _*_, _-_, _/_, _%_, _<_, _≤_}
-use lib.ListN.{length, getD, take, drop, set}
+use mathlib.Core.Path.{_≡_, refl, sym, _∙_}
+use Prim.Native.Nat.{_-_, _≤_}
+use lib.ListN.{length, drop}
 use Rattle.sheets.proofs.proofs.map_bytes.Statement.{statement}
 use Rattle.sheets.proofs.proofs.map_bytes.Tie as tie
-use Rattle.sheets.proofs.proofs.map_bytes.Reads as reads
-use Rattle.sheets.proofs.proofs.map_bytes.Lts as lts
-use Rattle.sheets.proofs.proofs.map_byte.Reads as map-byte-reads
 
 abbrev Inv-loop : tie.InvT-loop
 Inv-loop map m i₀ i = (i ≤ length map) × (allPass (mapByte m) map ≡ allPass (mapByte m) (drop i map))

@@ -6,16 +6,12 @@ use Rattle.sheets.specs.Reading.{mark}
 use Rattle.sheets.specs.Steps.{outcome, mark-took}
 use Rattle.sheets.specs.ProofSteps.{map-refused, map-short, map-judged}
 use native.Mathlib.Omega.{arith}
-use mathlib.Core.Path.{_≡_, refl, sym, ap, _∙_}
-use Prim.Native.Nat.{ℕ, _+_, _*_, _-_, _/_, _%_, _<_, _≤_}
-use lib.ListN.{length, getD, take, drop, set}
+use mathlib.Core.Path.{_≡_, sym, ap, _∙_}
+use Prim.Native.Nat.{_+_, _≤_}
+use lib.ListN.{length, drop}
 use borrow.Author.Needs.{needs}
 use Rattle.sheets.proofs.proofs.map_check.Statement.{statement}
 use Rattle.sheets.proofs.proofs.map_check.Tie as tie
-use Rattle.sheets.proofs.proofs.map_check.Reads as reads
-use Rattle.sheets.proofs.proofs.map_check.Lts as lts
-use Rattle.sheets.proofs.proofs.map_bytes.Reads as map-bytes-reads
-use Rattle.sheets.proofs.reading.mark_check.Reads as mark-check-reads
 
 -- the mark came out good
 marked : (c : tie.After-enum-told) → outcome (mark SM (drop (c .before .before .before .before .before .args .at) (c .before .before .before .before .before .args .bytes .now))) ≡ gives tt

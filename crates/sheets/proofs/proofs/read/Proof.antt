@@ -1,20 +1,13 @@
 use Rattle.rules.specs.Answer.{gives}
 use Rattle.machine.specs.Answers.{checked}
-use Rattle.sheets.specs.Steps.{outcome}
 use Rattle.sheets.specs.ProofAnswers.{stepped}
-use Rattle.sheets.specs.ProofSteps.{counts, countsAt, after, body, Headed, header-good, read-header, read-body, read-counts}
+use Rattle.sheets.specs.ProofSteps.{countsAt, Headed, header-good, read-header, read-body, read-counts}
 use native.Mathlib.Omega.{arith}
 use mathlib.Core.Path.{_≡_, refl, sym, ap, _∙_}
-use Prim.Native.Nat.{ℕ, _+_, _*_, _-_, _/_, _%_, _<_, _≤_}
-use lib.ListN.{length, getD, take, drop, set}
 use borrow.Author.Needs.{needs}
+use Rattle.sheets.specs.ProofParts.{counts}
 use Rattle.sheets.proofs.proofs.read.Statement.{statement}
 use Rattle.sheets.proofs.proofs.read.Tie as tie
-use Rattle.sheets.proofs.proofs.read.Reads as reads
-use Rattle.sheets.proofs.proofs.read.Lts as lts
-use Rattle.machine.proofs.wide.Reads as wide-reads
-use Rattle.sheets.proofs.proofs.body_check.Reads as body-check-reads
-use Rattle.sheets.proofs.proofs.header_check.Reads as header-check-reads
 
 -- the header came out good
 headed : (c : tie.After-enum-told) → Headed (c .before .before .before .before .args .bytes .now)
@@ -61,7 +54,7 @@ wide-requires-4 : tie.Need-wide-requires-4
 wide-requires-4 c κs = search needs
 
 body-check-requires : tie.Need-body-check-requires
-body-check-requires c κs = let h = headed (c .before .before .before .before .before .before .before .before) in (h .within, omega (arith, c .before .before .before .before .before .before .wide .ensures, h .ranges .m-high), omega (arith, c .before .before .before .before .wide2 .ensures, h .ranges .k-high))
+body-check-requires c κs = let h = headed (c .before .before .before .before .before .before .before .before) in (h .within, omega (arith, c .before .before .before .before .wide2 .ensures, h .ranges .k-high))
 
 enum-known-rest : tie.Need-enum-known-rest
 enum-known-rest c = search needs

@@ -1,14 +1,12 @@
-use Rattle.sheets.specs.WordRecords.{recordPlace, place-next, place-within, place-end}
 use borrow.Author.Needs.{needs}
 use native.Mathlib.Omega.{arith}
-use mathlib.Core.Path.{_≡_, refl, sym, ap, _∙_}
-use Prim.Native.Nat.{ℕ, _+_, _*_, _-_, _/_, _%_, _<_, _≤_}
-use lib.ListN.{length, getD, take, drop, set}
+use mathlib.Core.Path.{_≡_, refl, sym, _∙_}
+use Prim.Native.Nat.{_+_, _≤_}
+use lib.ListN.{length, getD}
+use Rattle.sheets.specs.ProofParts.{recordPlace}
+use Rattle.sheets.specs.WordSteps.{place-next, place-within, place-end}
 use Rattle.sheets.proofs.proofs.record_place.Statement.{statement}
 use Rattle.sheets.proofs.proofs.record_place.Tie as tie
-use Rattle.sheets.proofs.proofs.record_place.Reads as reads
-use Rattle.sheets.proofs.proofs.record_place.Lts as lts
-use Rattle.machine.proofs.wide.Reads as wide-reads
 
 abbrev Inv-loop : tie.InvT-loop
 Inv-loop bytes start j place₀ left₀ place left = recordPlace bytes start j ≡ recordPlace bytes place left

@@ -2,20 +2,15 @@ use Rattle.rules.specs.Answer.{gives}
 use Rattle.machine.specs.Answers.{checked}
 use Rattle.sheets.specs.Reading.{mark}
 use Rattle.sheets.specs.Steps.{outcome}
-use Rattle.sheets.specs.ProofSteps.{after, word-refused, word-short, word-opens}
 use mathlib.Core.List.{_∷_, []}
 use native.Mathlib.Omega.{arith}
-use mathlib.Core.Path.{_≡_, refl, sym, ap, _∙_}
-use Prim.Native.Nat.{ℕ, _+_, _*_, _-_, _/_, _%_, _<_, _≤_}
-use lib.ListN.{length, getD, take, drop, set}
+use mathlib.Core.Path.{_≡_, sym, ap, _∙_}
+use lib.ListN.{getD, drop}
 use borrow.Author.Needs.{needs}
+use Rattle.sheets.specs.ProofParts.{after}
+use Rattle.sheets.specs.WordSteps.{word-refused, word-short, word-opens}
 use Rattle.sheets.proofs.proofs.word_check.Statement.{statement}
 use Rattle.sheets.proofs.proofs.word_check.Tie as tie
-use Rattle.sheets.proofs.proofs.word_check.Reads as reads
-use Rattle.sheets.proofs.proofs.word_check.Lts as lts
-use Rattle.machine.proofs.wide.Reads as wide-reads
-use Rattle.sheets.proofs.proofs.letters_check.Reads as letters-check-reads
-use Rattle.sheets.proofs.reading.mark_check.Reads as mark-check-reads
 
 -- the mark came out good
 marked : (c : tie.After-enum-told) → let a = c .before .before .before .before .args in outcome (mark (getD (a .due .now) 0 0 ∷ getD (a .due .now) 1 0 ∷ []) (drop (a .at) (a .bytes .now))) ≡ gives tt

@@ -1,17 +1,15 @@
 use mathlib.Core.List.{_∷_, []}
 use Rattle.sheets.specs.Proofs.{wordRecords}
 use Rattle.sheets.specs.ProofAnswers.{stepped}
-use Rattle.sheets.specs.ProofSteps.{after, word-went, words-refused, words-passed, words-end}
 use borrow.Author.Needs.{needs}
 use native.Mathlib.Omega.{arith}
 use mathlib.Core.Path.{_≡_, refl, sym, ap, _∙_}
-use Prim.Native.Nat.{ℕ, _+_, _*_, _-_, _/_, _%_, _<_, _≤_}
-use lib.ListN.{length, getD, take, drop, set}
+use Prim.Native.Nat.{_≤_}
+use lib.ListN.{length, getD, drop}
+use Rattle.sheets.specs.ProofParts.{after}
+use Rattle.sheets.specs.WordSteps.{word-went, words-refused, words-passed, words-end}
 use Rattle.sheets.proofs.proofs.words_check.Statement.{statement}
 use Rattle.sheets.proofs.proofs.words_check.Tie as tie
-use Rattle.sheets.proofs.proofs.words_check.Reads as reads
-use Rattle.sheets.proofs.proofs.words_check.Lts as lts
-use Rattle.sheets.proofs.proofs.word_check.Reads as word-check-reads
 
 abbrev Inv-loop : tie.InvT-loop
 Inv-loop bytes at due low high k count place₀ left₀ place left = (place ≤ length bytes) × (after bytes (wordRecords (getD due 0 0 ∷ getD due 1 0 ∷ []) low high k count (drop at bytes)) ≡ after bytes (wordRecords (getD due 0 0 ∷ getD due 1 0 ∷ []) low high k left (drop place bytes)))
@@ -45,7 +43,7 @@ loop-again c = let a = c .before .before .before .before .before .before .before
     (word-went (a .bytes .now) (l .place) (l .inv .0) _ (a .low) (a .high) (a .k) _ e .within, l .inv .1 ∙ words-passed (a .bytes .now) (l .place) (l .inv .0) _ (a .low) (a .high) (a .k) (l .left) _ (search needs) e)
 
 returns-2 : tie.Need-returns-2 Inv-loop μ-loop
-returns-2 c = let a = c .before .before .before .args in let l = c .before .loop in let z : l .left ≡ 0 = omega arith in sym ((rw z at (l .inv .1)) ∙ words-end _ (a .low) (a .high) (a .k) (a .bytes .now) (l .place) (l .inv .0))
+returns-2 c = let a = c .before .before .before .args in let l = c .before .loop in let z : l .left ≡ 0 = omega arith in sym ((rw z at (l .inv .1)) ∙ words-end (a .bytes .now) (l .place) (l .inv .0) _ (a .low) (a .high) (a .k))
 
 pub words-check-spec : {M : Type 1} → statement M
 words-check-spec =
