@@ -3,13 +3,13 @@
 use mathlib.Core.Path.{_≡_, refl, sym, ap, ap₂, _∙_, subst}
 use mathlib.Core.Logic.{_⊎_, inl, inr, _≢_}
 use mathlib.Core.Bool.{Bool, true, false, _&&_}
-use mathlib.Core.List.{List, [], _∷_, _++_, map}
+use mathlib.Core.List.{List, [], _∷_, _++_, map, map-append}
 use Prim.Native.Nat.{ℕ, zero, suc, _+_, _*_, _-_, _/_, _%_, _≤_, _<_}
 use native.Mathlib.Nat.{mul-le-mul-right, suc-mul, div-add-mod', mod-lt, div-lt-iff-lt-mul}
 use native.Mathlib.Decide.{decLt, decLe}
 use native.Mathlib.Omega.{arith}
-use lib.ListN.{length, getD, take, drop, length-map, length-append, length-take, length-drop, List·getD-append}
-use lib.Seq.{getD-take, getD-drop, ext-getD, getD-append-add}
+use lib.ListN.{length, getD, take, drop, set, drop-of-length-le, length-map, length-append, length-take, length-drop, List·getD-append}
+use lib.Seq.{drop-append-le, getD-take, getD-drop, ext-getD, getD-append-add}
 use lib.Arith.{digits-lt, digits-div, digits-mod}
 use lib.Dec.{ltb, eqb}
 use Rattle.rules.specs.Tests.{eqs, lt-yes, lt-no}
@@ -18,7 +18,8 @@ use Rattle.rules.specs.Seek.{seek, seek-same}
 use Rattle.rules.specs.Table.{from, row, cells, stateOf, openRow}
 use Rattle.rules.specs.Closing.{cells-get, cells-length}
 use Rattle.rules.specs.FromLaws.{map-from-length, map-from-at}
-use Rattle.rules.specs.Areas.{put, put-length, put-below, put-in, put-above, part-same, over}
+use Rattle.rules.specs.Areas.{put, put-store, put-length, put-below, put-in, put-above}
+use Rattle.learning.specs.Store.{slot, stored, stored-at, stored-length, stored-more}
 
 -- ---- the cells as they stand
 -- the first c cells of row r
@@ -121,6 +122,68 @@ filled-beyond {W} {size} {first} {last} {low} {high} {f} {old} {new} pos room F 
         go : Dec (i / W < last) → last ≤ i / W
         go (yes l) = let b = div-lt-iff-lt-mul pos .0 l in absurd (omega arith)
         go (no l) = omega arith
+
+-- row r of words kept in slots
+pub row-kept : (width k : ℕ) (s : List ℕ) (m r : ℕ) → 0 < k → 0 < r → r < 1 + m * k → row k (stored width s m) r ≡ slot width s ((r - 1) / k) ++ ((r - 1) % k ∷ [])
+unfolding row
+row-kept width k s m zero pos h l = absurd (omega arith)
+row-kept width k s m (suc r) pos h l =
+    let p : suc r - 1 ≡ r = omega arith in
+    let j : r / k < m = div-lt-iff-lt-mul pos .1 (omega arith) in
+    rw (p, stored-at width s m (r / k) j)
+
+-- a word of S is put, and the row's letter is stored after it
+pub row-put : (width k : ℕ) (s : List ℕ) (m r end : ℕ) (area word : List ℕ) → 0 < k → k ≤ 12 → 0 < r → r < 1 + m * k
+    → end ≡ 0 + length (slot width s ((r - 1) / k)) → area ≡ put 0 (slot width s ((r - 1) / k)) word → length (slot width s ((r - 1) / k)) < length word
+    → (end + 1 ≡ length (row k (stored width s m) r)) × (set area end ((r - 1) % k % 256) ≡ put 0 (row k (stored width s m) r) word)
+row-put width k s m r end area word pos few h l e a room =
+    let w = slot width s ((r - 1) / k) in
+    let is = row-kept width k s m r pos h l in
+    let low = mod-lt (r - 1) pos in
+    let v : (r - 1) % k % 256 ≡ (r - 1) % k = omega arith in (
+      omega (arith, ap length is ∙ length-append w ((r - 1) % k ∷ [])),
+      ap₂ (λ (x : List ℕ) (i : ℕ). set x i ((r - 1) % k % 256)) a e
+          ∙ put-store 0 w ((r - 1) % k % 256) word (omega arith)
+          ∙ ap (λ (x : Word). put 0 x word) (ap (λ (x : ℕ). w ++ (x ∷ [])) v ∙ sym is),
+    )
+
+-- ---- a row of the area, filled column by column
+-- the cells of the columns `low` up to `high` of the row word w
+abbrev pub cellsFrom : (Word → ℕ) → List ℕ → ℕ → ℕ → Word → List ℕ
+cellsFrom ask columns low high w = cells ask (drop low (stored 94 columns high)) w
+
+pub cells-from-length : (ask : Word → ℕ) (columns : List ℕ) (low high : ℕ) (w : Word) → length (cellsFrom ask columns low high w) ≡ high - low
+cells-from-length ask columns low high w = cells-length ask (drop low (stored 94 columns high)) w ∙ simp (length-drop, stored-length 94 columns high)
+
+pub cells-from-none : (ask : Word → ℕ) (columns : List ℕ) (low : ℕ) (w : Word) → cellsFrom ask columns low low w ≡ []
+unfolding cells
+cells-from-none ask columns low w = ap (λ (E : List Word). cells ask E w) (drop-of-length-le (stored 94 columns low) {i = low} (omega (arith, stored-length 94 columns low)))
+
+-- one column more
+pub cells-from-more : (ask : Word → ℕ) (columns : List ℕ) (low c : ℕ) (w : Word) → low ≤ c → cellsFrom ask columns low (suc c) w ≡ cellsFrom ask columns low c w ++ (ask (w ++ slot 94 columns c) ∷ [])
+unfolding cells
+cells-from-more ask columns low c w h =
+    let n = stored-length 94 columns c in
+    ap (λ (E : List Word). cells ask (drop low E) w) (stored-more 94 columns c)
+    ∙ ap (λ (E : List Word). cells ask E w) (drop-append-le low (stored 94 columns c) (slot 94 columns c ∷ []) (omega arith))
+    ∙ map-append (λ (e : Word). ask (w ++ e)) (drop low (stored 94 columns c)) (slot 94 columns c ∷ [])
+
+-- the next cell is stored
+pub put-cell : (ask : Word → ℕ) (columns : List ℕ) (low c : ℕ) (w : Word) (v : ℕ) (row area : List ℕ) → low ≤ c → c < length area → v ≡ ask (w ++ slot 94 columns c)
+    → row ≡ put low (cellsFrom ask columns low c w) area → set row c v ≡ put low (cellsFrom ask columns low (c + 1) w) area
+put-cell ask columns low c w v row area h room is e =
+    let x = cellsFrom ask columns low c w in
+    let n : low + length x ≡ c = omega (arith, cells-from-length ask columns low c w) in
+    let one : suc c ≡ c + 1 = omega arith in
+    ap₂ (λ (l : List ℕ) (i : ℕ). set l i v) e (sym n)
+    ∙ put-store low x v area (omega arith)
+    ∙ ap (λ (l : List ℕ). put low l area) (ap (λ (y : ℕ). x ++ (y ∷ [])) is ∙ sym (cells-from-more ask columns low c w h) ∙ ap (λ (i : ℕ). cellsFrom ask columns low i w) one)
+
+-- a cell of them
+pub cells-from-at : (ask : Word → ℕ) (columns : List ℕ) (low high c : ℕ) (w : Word) → low + c < high → getD (cellsFrom ask columns low high w) c 0 ≡ ask (w ++ getD (stored 94 columns high) (low + c) [])
+cells-from-at ask columns low high c w h =
+    cells-get ask (drop low (stored 94 columns high)) w c (simp (length-drop, stored-length 94 columns high) (omega arith))
+    ∙ ap (λ (e : Word). ask (w ++ e)) (getD-drop low (stored 94 columns high) c [])
 
 -- rows of the words that stood there before
 pub row-stays : (k : ℕ) (S more : List Word) (r : ℕ) → 0 < k → r < 1 + length S * k → row k (S ++ more) r ≡ row k S r

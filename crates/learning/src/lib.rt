@@ -1,3 +1,4 @@
 // The learning part.
 pub mod records;
 pub mod store;
+pub mod table;

@@ -103,6 +103,17 @@ put-part at new area h =
     drop-at (take at area) (new ++ drop (at + length new) area) at (length-take-le at area (omega arith)) in
     ap (take (length new)) d ∙ take-append-seam new (drop (at + length new) area)
 
+-- the area up to what was put, and up to its end
+pub put-keeps : (at : ℕ) (new area : List ℕ) → at ≤ length area → take at (put at new area) ≡ take at area
+unfolding put
+put-keeps at new area h = take-at (take at area) (new ++ drop (at + length new) area) at (length-take-le at area h)
+
+pub put-front : (at : ℕ) (new area : List ℕ) → at + length new ≤ length area → take (at + length new) (put at new area) ≡ take at area ++ new
+unfolding put
+put-front at new area h =
+    ap (take (at + length new)) (sym (append-assoc (take at area) new (drop (at + length new) area)))
+    ∙ take-at (take at area ++ new) (drop (at + length new) area) (at + length new) (simp (length-append, length-take) (omega arith))
+
 -- a copy to the start of the part from a place on is a put
 pub put-copied : (area w : List ℕ) (at : ℕ) → at + length w ≤ length area
     → take at area ++ ((take (length w) w ++ drop (length w) (take (length area - at) (drop at area))) ++ drop (length area - at) (drop at area)) ≡ put at w area

@@ -1,0 +1,74 @@
+// The observation table in the lent area: cell (row, column) lies at row·59 + column. The words of S and the columns are kept in slots, of
+// 48 and 94 places. S is kept by its rows too: the cells of a word of S stand in the table at the row it was taken from.
+ghost use mathlib.Core.Path.{_≡_};
+ghost use mathlib.Core.Bool.{true};
+ghost use mathlib.Core.List.{_++_};
+ghost use Prim.Native.Nat.{ℕ, _+_, _*_, _-_, _<_, _≤_};
+ghost use lib.ListN.{length, getD, take, drop};
+ghost use Rattle.rules.specs.Areas.{put};
+ghost use Rattle.rules.specs.Words.{Below};
+ghost use Rattle.rules.specs.Machine.{Machine, lent, ask};
+ghost use Rattle.rules.specs.Table.{row, cells};
+ghost use Rattle.machine.specs.Lent.{link, Sound};
+ghost use Rattle.learning.specs.Store.{slot, stored, Kept};
+ghost use Rattle.learning.specs.Grid.{rowCells, stateIn, cellsFrom, Filled};
+use crate::store::copy_word;
+
+// The word of row `r` is put to the start of `word`: empty for row 0, and else a word of S and a letter. Answers its length.
+pub fn row_word(s: &[u8], m: usize, k: usize, r: usize, word: &mut [u8]) -> usize
+    requires { ⌜ Kept 48 k (now s) m ⌝ }
+    requires { ⌜ (1 ≤ k) × (k ≤ 12) × (r < 1 + m * k) × (48 ≤ length (now word)) ⌝ }
+    ensures { λ x. ⌜ (x ≡ length (row k (stored 48 (now (s .entry)) m) r)) × (now (word .exit) ≡ put 0 (row k (stored 48 (now (s .entry)) m) r) (now (word .entry))) ⌝ }
+{
+    if r == 0 {
+        return 0;
+    }
+    let j = (r - 1) / k;
+    let end = copy_word(s, 48, j, word, 0);
+    word[end] = ((r - 1) % k % 256) as u8;
+    end + 1
+}
+
+// The answer to the first `len` letters of `word` followed by the column `c`. These letters stay.
+pub fn ask_column(
+    words: &[u16],
+    n: usize,
+    k: usize,
+    word: &mut [u8],
+    len: usize,
+    columns: &[u8],
+    count: usize,
+    c: usize,
+) -> u8
+    requires { ⌜ Sound n k (now words) ⌝ }
+    requires { ⌜ Kept 94 k (now columns) count ⌝ }
+    requires { ⌜ (c < count) × (len ≤ 48) × (141 ≤ length (now word)) × Below k (take len (now word)) ⌝ }
+    ensures { λ x. ⌜ (x ≡ ask (link n k (now (words .entry))) (take len (now (word .entry)) ++ slot 94 (now (columns .entry)) c)) × (take len (now (word .exit)) ≡ take len (now (word .entry))) ⌝ }
+{
+    let end = copy_word(columns, 94, c, word, len);
+    machine::last_output(words, n, k, &word[..end])
+}
+
+// The cells of one row, of the columns `from` up to `to`. It knows no row number.
+pub fn fill_row(
+    row: &mut [u8],
+    words: &[u16],
+    n: usize,
+    k: usize,
+    word: &mut [u8],
+    len: usize,
+    columns: &[u8],
+    from: usize,
+    to: usize,
+)
+    requires { ⌜ Sound n k (now words) ⌝ }
+    requires { ⌜ Kept 94 k (now columns) to ⌝ }
+    requires { ⌜ (from ≤ to) × (to ≤ length (now row)) × (len ≤ 48) × (141 ≤ length (now word)) × Below k (take len (now word)) ⌝ }
+    ensures { λ _. ⌜ now (row .exit) ≡ put from (cellsFrom (ask (link n k (now (words .entry)))) (now (columns .entry)) from to (take len (now (word .entry)))) (now (row .entry)) ⌝ }
+{
+    let mut c = from;
+    while c < to {
+        row[c] = ask_column(words, n, k, word, len, columns, to, c);
+        c += 1;
+    }
+}
