@@ -11,7 +11,7 @@ ghost use Rattle.rules.specs.Machine.{Machine, lent, ask};
 ghost use Rattle.rules.specs.Table.{row, cells};
 ghost use Rattle.machine.specs.Lent.{link, Sound};
 ghost use Rattle.learning.specs.Store.{slot, stored, Kept};
-ghost use Rattle.learning.specs.Grid.{rowCells, stateIn, cellsFrom, Filled};
+ghost use Rattle.learning.specs.Grid.{rowCells, stateIn, cellsFrom, cellOf, Filled};
 use crate::store::copy_word;
 
 // The word of row `r` is put to the start of `word`: empty for row 0, and else a word of S and a letter. Answers its length.
@@ -70,5 +70,43 @@ pub fn fill_row(
     while c < to {
         row[c] = ask_column(words, n, k, word, len, columns, to, c);
         c += 1;
+    }
+}
+
+// The cells of the rows `first` up to `last`, of the columns `from` up to `to`: one row after the other is lent on from its place.
+pub fn fill_rows(
+    table: &mut [u8],
+    words: &[u16],
+    n: usize,
+    k: usize,
+    s: &[u8],
+    m: usize,
+    columns: &[u8],
+    word: &mut [u8],
+    first: usize,
+    last: usize,
+    from: usize,
+    to: usize,
+)
+    requires { ⌜ Sound n k (now words) × Kept 48 k (now s) m × Kept 94 k (now columns) to ⌝ }
+    requires { ⌜ (first ≤ last) × (last ≤ 1 + m * k) × (last * 59 ≤ length (now table)) × (from ≤ to) × (to ≤ 59) × (141 ≤ length (now word)) ⌝ }
+    ensures { λ _. ⌜ Filled 59 (cellOf (ask (link n k (now (words .entry)))) k (now (s .entry)) m (now (columns .entry)) to) first last from to (now (table .entry)) (now (table .exit)) ⌝ }
+{
+    let mut r = first;
+    while r < last {
+        let len = row_word(s, m, k, r, word);
+        let at = r * 59;
+        fill_row(
+            &mut table[at..at + 59],
+            words,
+            n,
+            k,
+            word,
+            len,
+            columns,
+            from,
+            to,
+        );
+        r += 1;
     }
 }
