@@ -31,6 +31,11 @@ unfoldable pub stateIn : ℕ → List ℕ → List ℕ → ℕ → ℕ → ℕ �
 unfolding rowCells seek eqs
 stateIn W table rows m c r = seek (λ (j : ℕ). eqs (rowCells W table c (getD rows j 0)) (rowCells W table c r)) 0 m
 
+-- the first of the rows `first` up to `last` whose cells are those of no word of S; `last` where there is none
+unfoldable pub openIn : ℕ → List ℕ → List ℕ → ℕ → ℕ → ℕ → ℕ → ℕ
+unfolding stateIn seek
+openIn W table rows m c first last = seek (λ (r : ℕ). eqb (stateIn W table rows m c r) m) first (last - first)
+
 -- ---- what was filled: the cells of the rows `first` up to `last`, of the columns `from` up to `to`, and nothing else
 pub record Filled (W : ℕ) (f : ℕ → ℕ → ℕ) (first last low high : ℕ) (old new : List ℕ) : Type 0 where
   pub size : length new ≡ length old

@@ -11,7 +11,8 @@ ghost use Rattle.rules.specs.Machine.{Machine, lent, ask};
 ghost use Rattle.rules.specs.Table.{row, cells};
 ghost use Rattle.machine.specs.Lent.{link, Sound};
 ghost use Rattle.learning.specs.Store.{slot, stored, Kept};
-ghost use Rattle.learning.specs.Grid.{rowCells, stateIn, cellsFrom, cellOf, Filled};
+ghost use Rattle.learning.specs.Grid.{rowCells, stateIn, openIn, cellsFrom, cellOf, Filled};
+ghost use Rattle.rules.specs.Tests.{eqs};
 use crate::store::copy_word;
 
 // The word of row `r` is put to the start of `word`: empty for row 0, and else a word of S and a letter. Answers its length.
@@ -109,4 +110,53 @@ pub fn fill_rows(
         );
         r += 1;
     }
+}
+
+// Whether two rows have the same cells in the first `c` columns.
+pub fn same_cells(table: &[u8], r: usize, q: usize, c: usize) -> bool
+    requires { ⌜ (r * 59 + c ≤ length (now table)) × (q * 59 + c ≤ length (now table)) ⌝ }
+    ensures { λ x. ⌜ x ≡ eqs (rowCells 59 (now (table .entry)) c r) (rowCells 59 (now (table .entry)) c q) ⌝ }
+{
+    let a = r * 59;
+    let b = q * 59;
+    check::same(&table[a..a + c], &table[b..b + c])
+}
+
+// The place in S of the word with the cells of row `r`; `m` where there is none.
+pub fn state_of(table: &[u8], rows: &[usize; 48], m: usize, c: usize, r: usize) -> usize
+    requires { ⌜ (m ≤ 48) × (r * 59 + c ≤ length (now table)) ⌝ }
+    requires { ⌜ ((j : ℕ) → j < m → getD (now rows) j 0 * 59 + c ≤ length (now table)) ⌝ }
+    ensures { λ x. ⌜ x ≡ stateIn 59 (now (table .entry)) (now (rows .entry)) m c r ⌝ }
+{
+    let mut j: usize = 0;
+    while j < m {
+        if same_cells(table, rows[j], r, c) {
+            return j;
+        }
+        j += 1;
+    }
+    j
+}
+
+// The first of the rows from `from` on whose cells are those of no word in S; `last` where there is none.
+pub fn open_row(
+    table: &[u8],
+    rows: &[usize; 48],
+    m: usize,
+    c: usize,
+    from: usize,
+    last: usize,
+) -> usize
+    requires { ⌜ (m ≤ 48) × (from ≤ last) × (last * 59 ≤ length (now table)) × (c ≤ 59) ⌝ }
+    requires { ⌜ ((j : ℕ) → j < m → getD (now rows) j 0 * 59 + c ≤ length (now table)) ⌝ }
+    ensures { λ x. ⌜ x ≡ openIn 59 (now (table .entry)) (now (rows .entry)) m c from last ⌝ }
+{
+    let mut r = from;
+    while r < last {
+        if state_of(table, rows, m, c, r) == m {
+            return r;
+        }
+        r += 1;
+    }
+    r
 }
