@@ -1,3 +1,4 @@
 pub mod Learner
 pub mod Store
 pub mod Grid
+pub mod Desk
