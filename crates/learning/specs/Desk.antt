@@ -63,10 +63,14 @@ module _ {n k : ℕ} {words s rows : List ℕ} {m : ℕ} {columns : List ℕ} {c
   pub desk-rows : (j : ℕ) → j < m → getD rows j 0 * 59 + c ≤ length table
   desk-rows j h = omega (arith, desk-row (getD rows j 0) (D .low j h), D .narrow)
 
-  pub desk-last : (1 + m * k) * 59 ≤ length table
-  desk-last =
-      let a = mul-le-mul {n₁ = m} {m₁ = k} {n₂ = 48} {m₂ = 12} (omega (arith, D .few, D .sound .n-high)) (D .sound .k-high) in
-      omega (arith, D .large)
+  pub desk-size : m * k ≤ 576
+  desk-size = mul-le-mul {n₁ = m} {m₁ = k} {n₂ = 48} {m₂ = 12} (omega (arith, D .few, D .sound .n-high)) (D .sound .k-high)
+
+  -- and so do those of one word more
+  pub desk-next : m < n → 1 + m * k + k ≤ 577
+  desk-next more =
+      let a = mul-le-mul {n₁ = suc m} {m₁ = k} {n₂ = 48} {m₂ = 12} (omega (arith, D .sound .n-high)) (D .sound .k-high) in
+      omega (arith, suc-mul m k)
 
   -- the state of a row, read off the table
   pub desk-state : (r : ℕ) → r < 1 + m * k → stateIn 59 table rows m c r ≡ stateOf (ask (link n k words)) (columnsIn columns c) (wordsIn s m) (row k (wordsIn s m) r)
@@ -183,3 +187,18 @@ module _ {n k : ℕ} {words s rows : List ℕ} {m : ℕ} {columns : List ℕ} {c
             subst (λ (i : ℕ). Filled 59 (g (wordsIn s m ++ (w ∷ []))) (1 + i * k) (1 + i * k + k) 0 (length (columnsIn columns c)) table table′) (sym S)
             (subst (λ (i : ℕ). Filled 59 (g (wordsIn s m ++ (w ∷ []))) (1 + m * k) (1 + m * k + k) 0 i table table′) (sym E)
             (subst (λ (X : List Word). Filled 59 (g X) (1 + m * k) (1 + m * k + k) 0 c table table′) desk-words F))
+
+  -- the same, as the code has it: the new array and the new count by name
+  module _ (r : ℕ) (table′ : List ℕ) (some-row : r < 1 + m * k) (more : m < n) (s⁺ : List ℕ) (m⁺ : ℕ)
+      (stores : s⁺ ≡ put (m * 48) (length (row k (wordsIn s m) r) ∷ row k (wordsIn s m) r) s) (next : m⁺ ≡ suc m) where
+    pub appended-kept : Kept 48 k s⁺ m⁺
+    appended-kept = rw (stores, next) (desk-kept r table′ some-row more)
+
+    pub appended : Filled 59 (cellOf (ask (link n k words)) k s⁺ m⁺ columns c) (1 + m * k) (1 + m * k + k) 0 c table table′
+        → Desk n k words s⁺ (set rows m r) m⁺ columns c table′ × (wordsIn s⁺ m⁺ ≡ wordsIn s m ++ (row k (wordsIn s m) r ∷ [])) × Beyond 34043 table table′
+    appended F =
+        let b = mul-le-mul {n₁ = suc m} {m₁ = k} {n₂ = 48} {m₂ = 12} (omega (arith, D .sound .n-high)) (D .sound .k-high) in (
+          rw (stores, next) (desk-append r table′ some-row more (rw (stores, next) at F)),
+          ap₂ wordsIn stores next ∙ desk-words r table′ some-row more,
+          filled-beyond (omega arith) (omega (arith, suc-mul m k)) F,
+        )
