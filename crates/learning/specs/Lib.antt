@@ -2,3 +2,4 @@ pub mod Learner
 pub mod Store
 pub mod Grid
 pub mod Desk
+pub mod ClosingLaws

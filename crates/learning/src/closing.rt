@@ -52,3 +52,36 @@ pub fn append_row(
         c,
     );
 }
+
+// Rule 3: the words of open rows are appended to S until there is none. Answers the number of words. A row that has its word in S keeps
+// it, so each search goes on from the row found last.
+pub fn close(
+    words: &[u16],
+    n: usize,
+    k: usize,
+    table: &mut [u8],
+    s: &mut [u8],
+    rows: &mut [usize; 48],
+    count: usize,
+    columns: &[u8],
+    c: usize,
+    word: &mut [u8],
+) -> usize
+    requires { ⌜ Desk n k (now words) (now s) (now rows) count (now columns) c (now table) ⌝ }
+    requires { ⌜ (Told (ask (link n k (now words))) (columnsIn (now columns) c) (wordsIn (now s) count)) ⌝ }
+    requires { ⌜ (Columns 1 (columnsIn (now columns) c)) × (141 ≤ length (now word)) ⌝ }
+    ensures { λ m. ⌜ Desk n k (now (words .entry)) (now (s .exit)) (now (rows .exit)) m (now (columns .entry)) c (now (table .exit)) ⌝ }
+    ensures { λ m. ⌜ wordsIn (now (s .exit)) m ≡ rules.close (ask (link n k (now (words .entry)))) k n (columnsIn (now (columns .entry)) c) (wordsIn (now (s .entry)) count) ⌝ }
+    ensures { λ _. ⌜ Beyond 34043 (now (table .entry)) (now (table .exit)) ⌝ }
+{
+    let mut m = count;
+    let mut last = 1 + count * k;
+    let mut r = crate::table::open_row(table, rows, m, c, 1, last);
+    while r < last {
+        append_row(words, n, k, table, s, rows, m, columns, c, word, r);
+        m += 1;
+        last += k;
+        r = crate::table::open_row(table, rows, m, c, r, last);
+    }
+    m
+}
