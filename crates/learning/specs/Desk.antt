@@ -2,9 +2,9 @@
 -- in its area. S and E are read off the slots.
 use mathlib.Core.Path.{_≡_, refl, sym, ap, ap₂, _∙_, subst}
 use mathlib.Core.Logic.{_⊎_, inl, inr, _≢_}
-use mathlib.Core.List.{List, [], _∷_, _++_}
+use mathlib.Core.List.{List, [], _∷_, _++_, map}
 use Prim.Native.Nat.{ℕ, zero, suc, _+_, _*_, _-_, _/_, _%_, _≤_, _<_}
-use native.Mathlib.Nat.{mul-le-mul-right, mul-le-mul, suc-mul, eq-or-lt-of-le, le-of-suc-le-suc, div-lt-iff-lt-mul}
+use native.Mathlib.Nat.{mul-le-mul-right, mul-le-mul, suc-mul, eq-or-lt-of-le, le-of-suc-le-suc, div-lt-iff-lt-mul, mod-lt}
 use native.Mathlib.Omega.{arith}
 use lib.ListN.{length, getD, take, drop, set, length-append, length-set, List·getD-append}
 use lib.Seq.{getD-append-seam, getD-set-same, getD-set-other}
@@ -13,11 +13,13 @@ use Rattle.rules.specs.Words.{Word, Below}
 use Rattle.rules.specs.Areas.{put, put-length}
 use Rattle.rules.specs.Machine.{Machine, lent, ask}
 use Rattle.rules.specs.Seek.{seek, seek-same}
-use Rattle.rules.specs.Table.{row, stateOf, openRow, close}
+use Rattle.rules.specs.Table.{from, row, stateOf, openRow, close, move, conjecture}
+use Rattle.rules.specs.FromLaws.{map-from-same}
+use Rattle.rules.specs.Sheets.{wordsOf}
 use Rattle.rules.specs.Closing.{Short, Words, Told, Columns, all-snoc, open-on}
 use Rattle.machine.specs.Lent.{link, Sound}
 use Rattle.learning.specs.Store.{slot, stored, stored-length, stored-at, stored-put, Slots, Kept, kept-more, kept-long}
-use Rattle.learning.specs.Grid.{Filled, cellOf, Holds, holds-word, Beyond, filled-beyond, stateIn, state-in, openIn, row-stays, row-below}
+use Rattle.learning.specs.Grid.{Filled, cellOf, Holds, holds-word, Beyond, filled-beyond, stateIn, state-in, openIn, guessIn, row-stays, row-below}
 
 abbrev pub wordsIn : List ℕ → ℕ → List Word
 wordsIn s m = stored 48 s m
@@ -97,6 +99,29 @@ module _ {n k : ℕ} {words s rows : List ℕ} {m : ℕ} {columns : List ℕ} {c
   desk-first-open =
       let z : 1 + length (wordsIn s m) * k - 1 ≡ length (wordsIn s m) * k = omega arith in
       desk-open 1 (omega arith) ∙ ap (seek (λ (r : ℕ). eqb (stateOf (ask (link n k words)) (columnsIn columns c) (wordsIn s m) (row k (wordsIn s m) r)) (length (wordsIn s m))) 1) z
+
+  -- rule 4: the conjecture, read off the table
+  pub desk-guess : (i : ℕ) → i < m * k
+      → guessIn 59 table rows m k c i
+      ≡ 256 * conjecture (ask (link n k words)) (columnsIn columns c) (wordsIn s m) .next (i / k) (i % k) + conjecture (ask (link n k words)) (columnsIn columns c) (wordsIn s m) .out (i / k) (i % k)
+  unfolding guessIn conjecture move row
+  desk-guess i h =
+      let j : i / k < m = div-lt-iff-lt-mul (D .sound .k-low) .1 h in
+      let a : i % k < k = mod-lt i (D .sound .k-low) in
+      let S = stored-length 48 s m in
+      let E = stored-length 94 columns c in
+      let one : 1 + i ≡ suc i = omega arith in
+      ap₂ (λ (x y : ℕ). 256 * x + y) (ap (stateIn 59 table rows m c) one ∙ desk-state (suc i) (omega arith))
+      (D .holds .cell (getD rows (i / k) 0) (i % k) (rw S (D .low (i / k) j)) (omega (arith, E, D .all))
+      ∙ ap₂ (λ (x y : Word). ask (link n k words) (x ++ y)) (D .taken (i / k) j) (D .ones (i % k) a))
+
+  pub desk-conjecture : map (guessIn 59 table rows m k c) (from 0 (m * k)) ≡ wordsOf 256 k (conjecture (ask (link n k words)) (columnsIn columns c) (wordsIn s m))
+  unfolding wordsOf conjecture
+  desk-conjecture =
+      map-from-same (guessIn 59 table rows m k c)
+      (λ (i : ℕ). 256 * conjecture (ask (link n k words)) (columnsIn columns c) (wordsIn s m) .next (i / k) (i % k) + conjecture (ask (link n k words)) (columnsIn columns c) (wordsIn s m) .out (i / k) (i % k))
+      0 (m * k) (λ i h. desk-guess i (omega arith))
+      ∙ ap (λ (x : ℕ). map (λ (i : ℕ). 256 * conjecture (ask (link n k words)) (columnsIn columns c) (wordsIn s m) .next (i / k) (i % k) + conjecture (ask (link n k words)) (columnsIn columns c) (wordsIn s m) .out (i / k) (i % k)) (from 0 (x * k))) (sym (stored-length 48 s m))
 
   -- a row's word has at most m letters
   pub desk-short : (r : ℕ) → r < 1 + m * k → length (row k (wordsIn s m) r) ≤ m

@@ -14,7 +14,7 @@ use lib.Arith.{digits-lt, digits-div, digits-mod}
 use lib.Dec.{ltb, eqb}
 use Rattle.rules.specs.Tests.{eqs, lt-yes, lt-no}
 use Rattle.rules.specs.Words.{Word, Below, below-append}
-use Rattle.rules.specs.Seek.{seek, seek-same}
+use Rattle.rules.specs.Seek.{seek, seek-same, sought}
 use Rattle.rules.specs.Table.{from, row, cells, stateOf, openRow}
 use Rattle.rules.specs.Closing.{cells-get, cells-length}
 use Rattle.rules.specs.FromLaws.{map-from-length, map-from-at}
@@ -31,10 +31,19 @@ unfoldable pub stateIn : ℕ → List ℕ → List ℕ → ℕ → ℕ → ℕ �
 unfolding rowCells seek eqs
 stateIn W table rows m c r = seek (λ (j : ℕ). eqs (rowCells W table c (getD rows j 0)) (rowCells W table c r)) 0 m
 
+pub state-in-le : (W : ℕ) (table rows : List ℕ) (m c r : ℕ) → stateIn W table rows m c r ≤ m
+unfolding stateIn
+state-in-le W table rows m c r = let s = sought (λ (j : ℕ). eqs (rowCells W table c (getD rows j 0)) (rowCells W table c r)) 0 m in omega (arith, s .high)
+
 -- the first of the rows `first` up to `last` whose cells are those of no word of S; `last` where there is none
 unfoldable pub openIn : ℕ → List ℕ → List ℕ → ℕ → ℕ → ℕ → ℕ → ℕ
 unfolding stateIn seek
 openIn W table rows m c first last = seek (λ (r : ℕ). eqb (stateIn W table rows m c r) m) first (last - first)
+
+-- the conjecture's word of state i / k and letter i % k: where the row goes, and the cell of the one-letter column
+unfoldable pub guessIn : ℕ → List ℕ → List ℕ → ℕ → ℕ → ℕ → ℕ → ℕ
+unfolding stateIn
+guessIn W table rows m k c i = 256 * stateIn W table rows m c (1 + i) + getD table (getD rows (i / k) 0 * W + i % k) 0
 
 -- ---- what was filled: the cells of the rows `first` up to `last`, of the columns `from` up to `to`, and nothing else
 pub record Filled (W : ℕ) (f : ℕ → ℕ → ℕ) (first last low high : ℕ) (old new : List ℕ) : Type 0 where

@@ -1,17 +1,16 @@
 // Rules 3 and 4: closing, and the conjecture as lent words.
 ghost use mathlib.Core.Path.{_≡_};
-ghost use mathlib.Core.List.{_++_, _∷_, []};
+ghost use mathlib.Core.List.{_++_, _∷_, [], map};
 ghost use Prim.Native.Nat.{ℕ, _+_, _*_, _<_, _≤_};
-ghost use lib.ListN.{length};
+ghost use lib.ListN.{length, getD};
 ghost use Rattle.rules.specs.Areas.{put};
 ghost use Rattle.rules.specs.Machine.{Machine, lent, ask};
 ghost use Rattle.rules.specs.Table as rules;
-ghost use Rattle.rules.specs.Table.{row};
+ghost use Rattle.rules.specs.Table.{from, row};
 ghost use Rattle.rules.specs.Closing.{Told, Columns};
-ghost use Rattle.rules.specs.Sheets.{wordsOf};
 ghost use Rattle.machine.specs.Lent.{link};
 ghost use Rattle.learning.specs.Desk.{wordsIn, columnsIn, Desk};
-ghost use Rattle.learning.specs.Grid.{Beyond};
+ghost use Rattle.learning.specs.Grid.{Beyond, guessIn};
 
 // The word of row `r` becomes the word `m` of S, and the rows of its letters are filled.
 pub fn append_row(
@@ -84,4 +83,20 @@ pub fn close(
         r = crate::table::open_row(table, rows, m, c, r, last);
     }
     m
+}
+
+// Rule 4: the conjecture as lent words, in S's order, is put to the start of `model`.
+pub fn conjecture(table: &[u8], rows: &[usize; 48], m: usize, k: usize, c: usize, model: &mut [u16])
+    requires { ⌜ (m ≤ 48) × (1 ≤ k) × (k ≤ c) × (c ≤ 59) × (m * k ≤ length (now model)) × ((1 + m * k) * 59 ≤ length (now table)) ⌝ }
+    requires { ⌜ ((j : ℕ) → j < m → getD (now rows) j 0 * 59 + 59 ≤ length (now table)) ⌝ }
+    ensures { λ _. ⌜ now (model .exit) ≡ put 0 (map (guessIn 59 (now (table .entry)) (now (rows .entry)) m k c) (from 0 (m * k))) (now (model .entry)) ⌝ }
+{
+    let size = m * k;
+    let mut i: usize = 0;
+    while i < size {
+        let next = crate::table::state_of(table, rows, m, c, 1 + i);
+        let at = rows[i / k] * 59 + i % k;
+        model[i] = machine::word(next, table[at]);
+        i += 1;
+    }
 }
