@@ -3,3 +3,4 @@ pub mod Store
 pub mod Grid
 pub mod Desk
 pub mod ClosingLaws
+pub mod Cut

@@ -1,5 +1,6 @@
 // The learning part.
 pub mod closing;
 pub mod records;
+pub mod rounds;
 pub mod store;
 pub mod table;
