@@ -4,3 +4,4 @@ pub mod Grid
 pub mod Desk
 pub mod ClosingLaws
 pub mod Cut
+pub mod RoundLaws

@@ -8,6 +8,11 @@ ghost use Rattle.rules.specs.Machine.{Machine, lent, ask};
 ghost use Rattle.machine.specs.Lent.{link, Sound, Steps};
 ghost use Rattle.learning.specs.Store.{slot, Kept};
 ghost use Rattle.learning.specs.Cut.{cutIn};
+ghost use Rattle.learning.specs.Desk.{wordsIn, columnsIn, Desk};
+ghost use Rattle.learning.specs.Grid.{Beyond};
+ghost use Rattle.learning.specs.RoundLaws.{Ready};
+ghost use Rattle.rules.specs.Rounds.{more};
+ghost use Rattle.rules.specs.Table as rules;
 use crate::store::copy_word;
 
 // The answer to `w` with its first `i` letters replaced by the word of S for `state`.
@@ -61,4 +66,45 @@ pub fn cut(
         i += 1;
     }
     i
+}
+
+// One round with the counterexample `w`: its suffix is added as the last column, and the table is closed. Answers the number of words.
+pub fn round(
+    words: &[u16],
+    n: usize,
+    k: usize,
+    table: &mut [u8],
+    s: &mut [u8],
+    rows: &mut [usize; 48],
+    m: usize,
+    columns: &mut [u8],
+    c: usize,
+    model: &[u16],
+    w: &[u8],
+    word: &mut [u8],
+) -> usize
+    requires { ⌜ Desk n k (now words) (now s) (now rows) m (now columns) c (now table) × Ready n k (now words) (now s) m (now columns) c (now model) (now w) ⌝ }
+    requires { ⌜ (c < 59) × (5546 ≤ length (now columns)) × (141 ≤ length (now word)) ⌝ }
+    ensures { λ m′. ⌜ Desk n k (now (words .entry)) (now (s .exit)) (now (rows .exit)) m′ (now (columns .exit)) (c + 1) (now (table .exit)) ⌝ }
+    ensures { λ _. ⌜ columnsIn (now (columns .exit)) (c + 1) ≡ more (ask (link n k (now (words .entry)))) 1 (columnsIn (now (columns .entry)) c) (wordsIn (now (s .entry)) m) (now (w .entry)) ⌝ }
+    ensures { λ m′. ⌜ wordsIn (now (s .exit)) m′ ≡ rules.close (ask (link n k (now (words .entry)))) k n (columnsIn (now (columns .exit)) (c + 1)) (wordsIn (now (s .entry)) m) ⌝ }
+    ensures { λ _. ⌜ Beyond 34043 (now (table .entry)) (now (table .exit)) ⌝ }
+{
+    let from = cut(words, n, k, model, s, m, w, word) + 1;
+    crate::store::store_word(columns, 94, c, &w[from..]);
+    crate::table::fill_rows(
+        table,
+        words,
+        n,
+        k,
+        s,
+        m,
+        columns,
+        word,
+        0,
+        1 + m * k,
+        c,
+        c + 1,
+    );
+    crate::closing::close(words, n, k, table, s, rows, m, columns, c + 1, word)
 }
