@@ -1,2 +1,4 @@
 pub mod Learner
 pub mod Store
+pub mod Queue
+pub mod Pairs

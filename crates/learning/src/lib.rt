@@ -1,2 +1,3 @@
 // The learning part.
 pub mod records;
+pub mod search;

@@ -1,0 +1,82 @@
+// Breadth first search over pairs of states of two lent machines. The pair of s and t is s·m + t. Place p of the queue has its pair, the place
+// from which it was met, and the letter: these spell the least word that leads to it.
+ghost use mathlib.Core.Path.{_≡_};
+ghost use mathlib.Core.List.{List};
+ghost use Prim.Native.Nat.{ℕ, suc, _+_, _*_, _-_, _<_, _≤_};
+ghost use lib.ListN.{length, getD};
+ghost use Rattle.machine.specs.Lent.{link};
+ghost use Rattle.rules.specs.Difference.{pairStep, pairApart};
+ghost use Rattle.learning.specs.Queue.{wordAt, entries, Earlier, Holds, joined, onward};
+ghost use Rattle.learning.specs.Pairs.{Beside};
+
+pub fn pair_next(
+    words: &[u16],
+    n: usize,
+    others: &[u16],
+    m: usize,
+    k: usize,
+    x: usize,
+    a: usize,
+) -> usize
+    requires { ⌜ Beside n m k (now words) (now others) ⌝ }
+    requires { ⌜ (x < n * m) × (a < k) ⌝ }
+    ensures { λ r. ⌜ r ≡ pairStep (link n k (now (words .entry))) (link m k (now (others .entry))) x a ⌝ }
+{
+    machine::next(words, k, x / m, a) * m + machine::next(others, k, x % m, a)
+}
+
+pub fn pair_apart(
+    words: &[u16],
+    n: usize,
+    others: &[u16],
+    m: usize,
+    k: usize,
+    x: usize,
+    a: usize,
+) -> bool
+    requires { ⌜ Beside n m k (now words) (now others) ⌝ }
+    requires { ⌜ (x < n * m) × (a < k) ⌝ }
+    ensures { λ r. ⌜ r ≡ pairApart (link n k (now (words .entry))) (link m k (now (others .entry))) x a ⌝ }
+{
+    machine::output(words, k, x / m, a) != machine::output(others, k, x % m, a)
+}
+
+// The pair `x`, met from place `from` by the letter `a`, joins the queue's end, unless it was met before. Answers the queue's length.
+pub fn meet(
+    queue: &mut [u16; 2304],
+    seen: &mut [bool; 2304],
+    parent: &mut [u16; 2304],
+    letter: &mut [u8; 2304],
+    count: usize,
+    x: usize,
+    from: usize,
+    a: usize,
+) -> usize
+    requires { ⌜ Holds (now queue) (now seen) (now parent) (now letter) count ⌝ }
+    requires { ⌜ (x < 2304) × (a < 256) × (from ≤ count - 1) ⌝ }
+    ensures { λ r. ⌜ Holds (now (queue .exit)) (now (seen .exit)) (now (parent .exit)) (now (letter .exit)) r ⌝ }
+    ensures { λ r. ⌜ entries (now (queue .exit)) (now (parent .exit)) (now (letter .exit)) r ≡ joined (entries (now (queue .entry)) (now (parent .entry)) (now (letter .entry)) count) x (onward count (wordAt (now (parent .entry)) (now (letter .entry)) from) a) ⌝ }
+{
+    if seen[x] {
+        return count;
+    }
+    seen[x] = true;
+    queue[count] = (x % 65536) as u16;
+    parent[count] = (from % 65536) as u16;
+    letter[count] = (a % 256) as u8;
+    count + 1
+}
+
+// How many letters the word of place `p` has, whatever the letters are.
+pub fn depth(parent: &[u16; 2304], p: usize) -> usize
+    requires { ⌜ (p < 2304) × Earlier (now parent) (suc p) ⌝ }
+    ensures { λ r. ⌜ ((letter : List ℕ) → r ≡ length (wordAt (now (parent .entry)) letter p)) ⌝ }
+{
+    let mut at = p;
+    let mut d: usize = 0;
+    while 0 < at {
+        at = machine::index(parent[at]);
+        d += 1;
+    }
+    d
+}
