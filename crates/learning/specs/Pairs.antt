@@ -5,7 +5,9 @@ use native.Mathlib.Nat.{mod-lt, div-lt-iff-lt-mul, mul-le-mul}
 use native.Mathlib.Omega.{arith}
 use lib.ListN.{length, getD}
 use lib.Arith.{digits-lt}
-use Rattle.machine.specs.Lent.{Steps}
+use Rattle.rules.specs.Machine.{lent}
+use Rattle.rules.specs.Difference.{pairStep}
+use Rattle.machine.specs.Lent.{Steps, link}
 
 -- words and others lend machines of n and m states over the same k letters, within the paper's ranges
 pub record Beside (n m k : ℕ) (words others : List ℕ) : Type 0 where
@@ -33,3 +35,7 @@ here {n} {m} {k} {words} {others} B x a hx ha =
       next = digits-lt (B .first .next (x / m) a left ha) (B .second .next (x % m) a right ha);
       small = mul-le-mul (B .n-high) (B .m-high);
     }
+
+pub step-low : {n m k : ℕ} {words others : List ℕ} → Beside n m k words others → (x a : ℕ) → x < n * m → a < k → pairStep (link n k words) (link m k others) x a < n * m
+unfolding pairStep lent
+step-low B x a hx ha = here B x a hx ha .next

@@ -1,21 +1,24 @@
 -- The search's arrays, and the queue of `Search` that they stand for. Place p of the queue has its node, the place from which it was met
 -- and the letter; place 0 is the start. So the word of a place is the word of that earlier place, followed by the letter.
 use mathlib.Core.Path.{_≡_, refl, sym, ap, ap₂, _∙_, subst}
-use mathlib.Core.Logic.{_≢_}
+use mathlib.Core.Logic.{_⊎_, inl, inr, _≢_}
 use mathlib.Core.Bool.{Bool, true, false, _||_}
 use mathlib.Core.Option.{Option, none, some}
-use mathlib.Core.List.{List, [], _∷_, _++_, map}
+use mathlib.Core.List.{List, [], _∷_, _++_, map, append-nil, append-assoc}
 use Prim.Native.Nat.{ℕ, zero, suc, _+_, _*_, _/_, _%_, _-_, _≤_, _<_}
 use native.Mathlib.Nat.{not-suc-le-zero, le-of-suc-le-suc}
 use native.Mathlib.Decide.{ℕ-discrete}
+use native.Mathlib.Numerals.{add-one}
 use native.Mathlib.Omega.{arith}
-use lib.ListN.{length, getD, set, replicate, length-append, length-set, length-replicate, getD-replicate, List·getD-append}
-use lib.Seq.{getD-set-same, getD-set-other}
+use lib.ListN.{length, getD, take, drop, set, replicate, length-append, length-set, length-replicate, getD-replicate, List·getD-append}
+use lib.Seq.{getD-set-same, getD-set-other, take-suc, set-at, length-take-le}
 use lib.Dec.{eqb}
 use Rattle.rules.specs.Least.{split}
-use Rattle.rules.specs.Tests.{is-true, is-false}
+use Rattle.rules.specs.Tests.{outcome, is-true, is-false}
 use Rattle.rules.specs.Words.{Word}
 use Rattle.rules.specs.Search.{Entry, starts, met, meet, meetAll}
+use Rattle.rules.specs.SearchLaws.{Grown}
+use Rattle.rules.specs.Areas.{put}
 use Rattle.rules.specs.Table.{from}
 use Rattle.rules.specs.FromLaws.{map-from-length, map-from-at, map-from-snoc, map-from-same}
 
@@ -76,6 +79,10 @@ abbrev pub onward : ℕ → Word → ℕ → Word
 onward zero w a = []
 onward (suc count) w a = w ++ (a ∷ [])
 
+pub onward-later : (count : ℕ) (w : Word) (a : ℕ) → 0 < count → onward count w a ≡ w ++ (a ∷ [])
+onward-later zero w a h = absurd (not-suc-le-zero h)
+onward-later (suc count) w a h = refl
+
 -- ---- marks
 pub marked-le : (marks : List Bool) → marked marks ≤ length marks
 unfolding marked
@@ -104,6 +111,9 @@ pub marked-none : (n : ℕ) → marked (replicate n false) ≡ 0
 unfolding marked
 marked-none zero = refl
 marked-none (suc n) = marked-none n
+
+pub within : {queue : List ℕ} {seen : List Bool} {parent letter : List ℕ} {count : ℕ} → Holds queue seen parent letter count → count ≤ 2304
+within {queue} {seen} H = omega (arith, H .full, H .seen-size, marked-le seen)
 
 -- ---- words of places
 -- each step back is to an earlier place, so that p of them are enough from place p
@@ -203,6 +213,32 @@ pub joined-new : (queue : List (Entry ℕ)) (x : ℕ) (w : Word) → known x que
 unfolding joined
 joined-new queue x w e = rw (e, joined)
 
+-- the queue only grows
+pub joined-grown : (queue : List (Entry ℕ)) (x : ℕ) (w : Word) → Grown queue (joined queue x w)
+joined-grown queue x w =
+    elim (outcome (known x queue)) [
+      | inl t ↦ ([], joined-old queue x w t ∙ sym (append-nil queue))
+      | inr t ↦ (record { node = x; word = w } ∷ [], joined-new queue x w t)
+    ]
+
+-- a step of the search joins the node that the letter leads to
+pub meet-joined : (step : ℕ → ℕ → ℕ) (start : ℕ) (e : Entry ℕ) (a : ℕ) (queue : List (Entry ℕ)) → meet eqb step start e a queue ≡ joined queue (step (e .node) a) (e .word ++ (a ∷ []))
+unfolding meet joined
+meet-joined step start e a queue =
+    ap (λ (b : Bool). elim b [ true ↦ queue | false ↦ queue ++ (record { node = step (e .node) a; word = e .word ++ (a ∷ []) } ∷ []) ]) (met-known step start (step (e .node) a) queue)
+
+-- so the letters from a on do what is left once a was tried
+pub letter-tried : (step : ℕ → ℕ → ℕ) (start : ℕ) (e : Entry ℕ) (k a : ℕ) (queue : List (Entry ℕ)) → a < k
+    → meetAll eqb step start e a (k - a) queue ≡ meetAll eqb step start e (a + 1) (k - (a + 1)) (joined queue (step (e .node) a) (e .word ++ (a ∷ [])))
+unfolding meetAll
+letter-tried step start e k a queue h =
+    let z : k - a ≡ suc (k - (a + 1)) = omega arith in
+    rw (z, add-one) (ap (meetAll eqb step start e (suc a) (k - suc a)) (meet-joined step start e a queue))
+
+pub letters-over : (step : ℕ → ℕ → ℕ) (start : ℕ) (e : Entry ℕ) (k a : ℕ) (queue : List (Entry ℕ)) → k ≤ a → meetAll eqb step start e a (k - a) queue ≡ queue
+unfolding meetAll
+letters-over step start e k a queue h = let z : k - a ≡ 0 = omega arith in rw z
+
 -- the word of a place that was stored at the end
 next-word : (parent letter : List ℕ) (count from a : ℕ) → count < length parent → count < length letter → Earlier (set parent count from) (suc count) → Earlier parent count → from ≤ count - 1
     → wordAt (set parent count from) (set letter count a) count ≡ onward count (wordAt parent letter from) a
@@ -255,3 +291,26 @@ module _ {queue : List ℕ} {seen : List Bool} {parent letter : List ℕ} {count
       mark : (y : ℕ) → y < 2304 → Dec (y ≡ x) → getD (set seen x true) y false ≡ (eqb x y || known y (entries queue parent letter count))
       mark y h (yes e) = rw (e, getD-set-same seen x true false (omega (arith, H .seen-size)), is-true x x refl)
       mark y h (no f) = rw (getD-set-other seen x y true false f, is-false x y (λ e. f (sym e))) (H .marks y h)
+
+-- entries that only grew keep their first ones
+pub kept : (queue parent letter queue′ parent′ letter′ : List ℕ) (count count′ : ℕ) → Grown (entries queue parent letter count) (entries queue′ parent′ letter′ count′)
+    → (p : ℕ) → p < count → (p < count′) × (entryAt queue′ parent′ letter′ p ≡ entryAt queue parent letter p)
+kept queue parent letter queue′ parent′ letter′ count count′ g p h =
+    let long : p < count′ = omega (arith, ap length (g .1), length-append (entries queue parent letter count) (g .0), entries-length queue parent letter count, entries-length queue′ parent′ letter′ count′) in (
+      long,
+      sym (entries-at queue′ parent′ letter′ count′ p (starts 0) long)
+          ∙ ap (λ (l : List (Entry ℕ)). getD l p (starts 0)) (g .1)
+          ∙ List·getD-append (entries queue parent letter count) (g .0) (starts 0) p (omega (arith, entries-length queue parent letter count))
+          ∙ entries-at queue parent letter count p (starts 0) h,
+    )
+
+-- ---- spelling from the end
+pub put-before : (i v : ℕ) (x area : List ℕ) → i < length area → set (put (suc i) x area) i v ≡ put i (v ∷ x) area
+unfolding put
+put-before i v x area h =
+    let rest : List ℕ = x ++ drop (suc i + length x) area in
+    let n : suc i + length x ≡ i + suc (length x) = omega arith in
+    ap (λ (l : List ℕ). set (l ++ rest) i v) (take-suc area i 0 h)
+    ∙ ap (λ (l : List ℕ). set l i v) (append-assoc (take i area) (getD area i 0 ∷ []) rest)
+    ∙ set-at (take i area) (getD area i 0) rest v i (length-take-le i area (omega arith))
+    ∙ ap (λ (j : ℕ). take i area ++ (v ∷ (x ++ drop j area))) n

@@ -4,9 +4,12 @@ ghost use mathlib.Core.Path.{_≡_};
 ghost use mathlib.Core.List.{List};
 ghost use Prim.Native.Nat.{ℕ, suc, _+_, _*_, _-_, _<_, _≤_};
 ghost use lib.ListN.{length, getD};
+ghost use lib.Dec.{eqb};
 ghost use Rattle.machine.specs.Lent.{link};
+ghost use Rattle.rules.specs.Areas.{put};
+ghost use Rattle.rules.specs.Search.{meetAll};
 ghost use Rattle.rules.specs.Difference.{pairStep, pairApart};
-ghost use Rattle.learning.specs.Queue.{wordAt, entries, Earlier, Holds, joined, onward};
+ghost use Rattle.learning.specs.Queue.{wordAt, entryAt, entries, Earlier, Holds, joined, onward};
 ghost use Rattle.learning.specs.Pairs.{Beside};
 
 pub fn pair_next(
@@ -79,4 +82,59 @@ pub fn depth(parent: &[u16; 2304], p: usize) -> usize
         d += 1;
     }
     d
+}
+
+// The word of place `p` is put into `into` from `at` on. Answers where it ends.
+pub fn spell(
+    parent: &[u16; 2304],
+    letter: &[u8; 2304],
+    p: usize,
+    into: &mut [u8],
+    at: usize,
+) -> usize
+    requires { ⌜ (p < 2304) × Earlier (now parent) (suc p) ⌝ }
+    requires { ⌜ at + length (wordAt (now parent) (now letter) p) ≤ length (now into) ⌝ }
+    ensures { λ r. ⌜ r ≡ at + length (wordAt (now (parent .entry)) (now (letter .entry)) p) ⌝ }
+    ensures { λ r. ⌜ now (into .exit) ≡ put at (wordAt (now (parent .entry)) (now (letter .entry)) p) (now (into .entry)) ⌝ }
+{
+    let end = at + depth(parent, p);
+    let mut q = p;
+    let mut i = end;
+    while 0 < q {
+        i -= 1;
+        into[i] = letter[q];
+        q = machine::index(parent[q]);
+    }
+    end
+}
+
+// Every letter at the place `at`.
+pub fn meet_letters(
+    words: &[u16],
+    n: usize,
+    others: &[u16],
+    m: usize,
+    k: usize,
+    queue: &mut [u16; 2304],
+    seen: &mut [bool; 2304],
+    parent: &mut [u16; 2304],
+    letter: &mut [u8; 2304],
+    count: usize,
+    at: usize,
+) -> usize
+    requires { ⌜ Beside n m k (now words) (now others) ⌝ }
+    requires { ⌜ Holds (now queue) (now seen) (now parent) (now letter) count ⌝ }
+    requires { ⌜ (at < count) × (getD (now queue) at 0 < n * m) ⌝ }
+    ensures { λ r. ⌜ Holds (now (queue .exit)) (now (seen .exit)) (now (parent .exit)) (now (letter .exit)) r ⌝ }
+    ensures { λ r. ⌜ ((start : ℕ) → entries (now (queue .exit)) (now (parent .exit)) (now (letter .exit)) r ≡ meetAll eqb (pairStep (link n k (now (words .entry))) (link m k (now (others .entry)))) start (entryAt (now (queue .entry)) (now (parent .entry)) (now (letter .entry)) at) 0 k (entries (now (queue .entry)) (now (parent .entry)) (now (letter .entry)) count)) ⌝ }
+{
+    let x = machine::index(queue[at]);
+    let mut met = count;
+    let mut a: usize = 0;
+    while a < k {
+        let next = pair_next(words, n, others, m, k, x, a);
+        met = meet(queue, seen, parent, letter, met, next, at, a);
+        a += 1;
+    }
+    met
 }
