@@ -1,13 +1,25 @@
 -- Two machines that are searched side by side: the pair of s and t is s·m + t, and no letter leads out of the n·m pairs.
-use mathlib.Core.List.{List}
-use Prim.Native.Nat.{ℕ, _+_, _*_, _/_, _%_, _≤_, _<_}
+use mathlib.Core.Path.{_≡_, refl, sym, ap, ap₂, _∙_, subst}
+use mathlib.Core.Bool.{Bool, true, false}
+use mathlib.Core.Option.{Option, none, some}
+use mathlib.Core.List.{List, [], _∷_, _++_}
+use Prim.Native.Nat.{ℕ, zero, suc, _+_, _*_, _/_, _%_, _-_, _≤_, _<_}
 use native.Mathlib.Nat.{mod-lt, div-lt-iff-lt-mul, mul-le-mul}
 use native.Mathlib.Omega.{arith}
-use lib.ListN.{length, getD}
+use native.Mathlib.Numerals.{add-one}
+use lib.ListN.{length, getD, length-append, List·getD-append}
 use lib.Arith.{digits-lt}
-use Rattle.rules.specs.Machine.{lent}
-use Rattle.rules.specs.Difference.{pairStep}
+use lib.Dec.{eqb, ltb}
+use Rattle.rules.specs.Tests.{eqb-true, eqb-false, lt-yes, lt-no}
+use Rattle.rules.specs.Words.{Word, Below}
+use Rattle.rules.specs.Seek.{seek}
+use Rattle.rules.specs.Search.{Entry, starts, walk, meetAll, exploreFrom, explore, Explored}
+use Rattle.rules.specs.SearchLaws as search
+use Rattle.rules.specs.MachineLaws.{walk-low}
+use Rattle.rules.specs.Machine.{Machine, lent}
+use Rattle.rules.specs.Difference.{pairStep, pairApart}
 use Rattle.machine.specs.Lent.{Steps, link}
+use Rattle.learning.specs.Queue.{entries, entries-length, entries-at}
 
 -- words and others lend machines of n and m states over the same k letters, within the paper's ranges
 pub record Beside (n m k : ℕ) (words others : List ℕ) : Type 0 where
@@ -23,7 +35,10 @@ pub record Here (n m k : ℕ) (words others : List ℕ) (x a : ℕ) : Type 0 whe
   pub first : x / m * k + a < length words
   pub second : x % m * k + a < length others
   pub next : getD words (x / m * k + a) 0 / 256 * m + getD others (x % m * k + a) 0 / 256 < n * m
-  pub small : n * m ≤ 2304
+
+-- the queue has a place for every pair
+pub small : {n m k : ℕ} {words others : List ℕ} → Beside n m k words others → n * m ≤ 2304
+small B = mul-le-mul (B .n-high) (B .m-high)
 
 pub here : {n m k : ℕ} {words others : List ℕ} → Beside n m k words others → (x a : ℕ) → x < n * m → a < k → Here n m k words others x a
 here {n} {m} {k} {words} {others} B x a hx ha =
@@ -33,9 +48,69 @@ here {n} {m} {k} {words} {others} B x a hx ha =
       first = omega (arith, B .first .long, digits-lt left ha);
       second = omega (arith, B .second .long, digits-lt right ha);
       next = digits-lt (B .first .next (x / m) a left ha) (B .second .next (x % m) a right ha);
-      small = mul-le-mul (B .n-high) (B .m-high);
     }
 
 pub step-low : {n m k : ℕ} {words others : List ℕ} → Beside n m k words others → (x a : ℕ) → x < n * m → a < k → pairStep (link n k words) (link m k others) x a < n * m
 unfolding pairStep lent
 step-low B x a hx ha = here B x a hx ha .next
+
+-- ---- a search underway: at the place `at`, what is left of the search makes the whole of it from the queue so far
+abbrev pub Underway : (ℕ → ℕ → ℕ) → ℕ → ℕ → ℕ → ℕ → List (Entry ℕ) → Type 0
+Underway step start k size at queue = exploreFrom eqb step start k (size - at) at queue ≡ explore eqb step start k size
+
+-- over nodes below `size`, which no letter leads out of
+module _ (step : ℕ → ℕ → ℕ) (start k size : ℕ) (stays : (x a : ℕ) → x < size → a < k → step x a < size) (low : start < size) where
+  walks : (w : Word) → Below k w → walk step start w < size
+  walks w b = walk-low size k step stays start w low b
+
+  whole : Explored step k start (explore eqb step start k size)
+  whole = search.explored eqb step k start eqb-true eqb-false size (λ x. x) (λ x y e. e) walks
+
+  pub under-starts : Underway step start k size 0 (starts start ∷ [])
+  unfolding explore
+  under-starts = let z : size - 0 ≡ size = omega arith in rw z
+
+  module _ (at : ℕ) (queue : List (Entry ℕ)) (U : Underway step start k size at queue) where
+    -- the queue is the beginning of the whole
+    more : search.Grown queue (explore eqb step start k size)
+    more = let g = search.grown eqb step k start (size - at) at queue in (g .0, sym U ∙ g .1)
+
+    pub under-few : length queue ≤ size
+    under-few =
+        omega (arith, search.few step k start (explore eqb step start k size) whole size (λ x. x) (λ x y e. e) walks, ap length (more .1), length-append queue (more .0))
+
+    pub under-low : (p : ℕ) → p < length queue → getD queue p (starts start) .node < size
+    under-low p h =
+        let all = explore eqb step start k size in
+        let long : p < length all = omega (arith, ap length (more .1), length-append queue (more .0)) in
+        let same : getD all p (starts start) ≡ getD queue p (starts start) = ap (λ (l : List (Entry ℕ)). getD l p (starts start)) (more .1) ∙ List·getD-append queue (more .0) (starts start) p h in
+        subst (λ (e : Entry ℕ). e .node < size) same (subst (λ (x : ℕ). x < size) (whole .leads p long) (walks (getD all p (starts start) .word) (whole .letters p long)))
+
+    pub under-next : at < length queue → Underway step start k size (at + 1) (meetAll eqb step start (getD queue at (starts start)) 0 k queue)
+    unfolding exploreFrom
+    under-next h =
+        let l = under-few in
+        let z : size - at ≡ suc (size - suc at) = omega arith in
+        rw add-one (rw (z, lt-yes at (length queue) h, exploreFrom) at U)
+
+    pub under-over : length queue ≤ at → queue ≡ explore eqb step start k size
+    unfolding exploreFrom
+    under-over h = sym (over (size - at)) ∙ U
+      where
+        over : (f : ℕ) → exploreFrom eqb step start k f at queue ≡ queue
+        over zero = refl
+        over (suc f) = rw (lt-no at (length queue) h, exploreFrom)
+
+    -- of the arrays that hold the queue
+    pub under-place : (nodes parent letter : List ℕ) (count : ℕ) → entries nodes parent letter count ≡ queue → (p : ℕ) → p < count → getD nodes p 0 < size
+    under-place nodes parent letter count e p h =
+        let long : p < length queue = omega (arith, ap length e, entries-length nodes parent letter count) in
+        subst (λ (x : Entry ℕ). x .node < size) (ap (λ (l : List (Entry ℕ)). getD l p (starts start)) (sym e) ∙ entries-at nodes parent letter count p (starts start) h) (under-low p long)
+
+-- ---- the first place and letter, as place·k + letter, at which the outputs differ; count·k where there is none
+abbrev pub apartAt : Machine → Machine → ℕ → List ℕ → ℕ → Bool
+apartAt M N k nodes j = pairApart M N (getD nodes (j / k) 0) (j % k)
+
+unfoldable pub firstOf : Machine → Machine → ℕ → List ℕ → ℕ → ℕ
+unfolding seek pairApart
+firstOf M N k nodes count = seek (apartAt M N k nodes) 0 (count * k)

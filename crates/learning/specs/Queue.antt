@@ -213,6 +213,10 @@ pub joined-new : (queue : List (Entry ℕ)) (x : ℕ) (w : Word) → known x que
 unfolding joined
 joined-new queue x w e = rw (e, joined)
 
+pub joined-first : (nodes parent letter : List ℕ) (x : ℕ) → joined (entries nodes parent letter 0) x [] ≡ starts x ∷ []
+unfolding entries joined
+joined-first nodes parent letter x = refl
+
 -- the queue only grows
 pub joined-grown : (queue : List (Entry ℕ)) (x : ℕ) (w : Word) → Grown queue (joined queue x w)
 joined-grown queue x w =

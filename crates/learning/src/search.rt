@@ -8,9 +8,10 @@ ghost use lib.Dec.{eqb};
 ghost use Rattle.machine.specs.Lent.{link};
 ghost use Rattle.rules.specs.Areas.{put};
 ghost use Rattle.rules.specs.Search.{meetAll};
+ghost use Rattle.rules.specs.Search as search;
 ghost use Rattle.rules.specs.Difference.{pairStep, pairApart};
 ghost use Rattle.learning.specs.Queue.{wordAt, entryAt, entries, Earlier, Holds, joined, onward};
-ghost use Rattle.learning.specs.Pairs.{Beside};
+ghost use Rattle.learning.specs.Pairs.{Beside, firstOf};
 
 pub fn pair_next(
     words: &[u16],
@@ -137,4 +138,68 @@ pub fn meet_letters(
         a += 1;
     }
     met
+}
+
+// All pairs that words reach from the pair `start`, in the order of the least words. Answers how many.
+pub fn explore(
+    words: &[u16],
+    n: usize,
+    others: &[u16],
+    m: usize,
+    k: usize,
+    start: usize,
+    queue: &mut [u16; 2304],
+    seen: &mut [bool; 2304],
+    parent: &mut [u16; 2304],
+    letter: &mut [u8; 2304],
+) -> usize
+    requires { ⌜ Beside n m k (now words) (now others) ⌝ }
+    requires { ⌜ Holds (now queue) (now seen) (now parent) (now letter) 0 ⌝ }
+    requires { ⌜ start < n * m ⌝ }
+    ensures { λ r. ⌜ Holds (now (queue .exit)) (now (seen .exit)) (now (parent .exit)) (now (letter .exit)) r ⌝ }
+    ensures { λ r. ⌜ entries (now (queue .exit)) (now (parent .exit)) (now (letter .exit)) r ≡ search.explore eqb (pairStep (link n k (now (words .entry))) (link m k (now (others .entry)))) start k (n * m) ⌝ }
+{
+    let mut count = meet(queue, seen, parent, letter, 0, start, 0, 0);
+    let mut at: usize = 0;
+    while at < count {
+        count = meet_letters(
+            words,
+            n,
+            others,
+            m,
+            k,
+            queue,
+            seen,
+            parent,
+            letter,
+            count,
+            at,
+        );
+        at += 1;
+    }
+    count
+}
+
+// The first place and letter, as place·k + letter, at which the outputs differ; count·k where there is none.
+pub fn first_apart(
+    words: &[u16],
+    n: usize,
+    others: &[u16],
+    m: usize,
+    k: usize,
+    queue: &[u16; 2304],
+    count: usize,
+) -> usize
+    requires { ⌜ Beside n m k (now words) (now others) ⌝ }
+    requires { ⌜ (count ≤ 2304) × ((p : ℕ) → p < count → getD (now queue) p 0 < n * m) ⌝ }
+    ensures { λ r. ⌜ r ≡ firstOf (link n k (now (words .entry))) (link m k (now (others .entry))) k (now (queue .entry)) count ⌝ }
+{
+    let mut j: usize = 0;
+    while j < count * k {
+        if pair_apart(words, n, others, m, k, machine::index(queue[j / k]), j % k) {
+            return j;
+        }
+        j += 1;
+    }
+    j
 }

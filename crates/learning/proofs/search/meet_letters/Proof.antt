@@ -3,7 +3,7 @@ use lib.Dec.{eqb}
 use Rattle.rules.specs.Search.{Entry, meetAll}
 use Rattle.rules.specs.Difference.{pairStep}
 use Rattle.machine.specs.Lent.{link}
-use Rattle.learning.specs.Pairs.{here, step-low}
+use Rattle.learning.specs.Pairs.{small, step-low}
 use Rattle.learning.specs.Queue.{wordAt, entryAt, entries, Holds, joined, onward-later, joined-grown, letter-tried, letters-over, kept, within}
 use borrow.Author.Needs.{needs}
 use native.Mathlib.Omega.{arith}
@@ -46,7 +46,7 @@ pair-next-requires c κs = (c .before .before .before .before .before .before .p
 meet-requires : tie.Need-meet-requires Inv-loop μ-loop
 meet-requires c κs =
     let a = c .before .before .before .before .before .before .before .before .before .before .before .args in let l = c .before .before .before .before .before .before .loop in let B = c .before .before .before .before .before .before .before .before .before .before .before .pre .0 in
-    (l .inv .2, (omega (arith, c .before .before .before .before .pair-next .ensures, step-low B (c .before .before .before .before .before .before .before .index .result) (l .a) (low (c .before .before .before .before .before)) (search needs), here B (c .before .before .before .before .before .before .before .index .result) (l .a) (low (c .before .before .before .before .before)) (search needs) .small), omega (arith, B .k-high), omega (arith, l .inv .1)))
+    (l .inv .2, (omega (arith, c .before .before .before .before .pair-next .ensures, step-low B (c .before .before .before .before .before .before .before .index .result) (l .a) (low (c .before .before .before .before .before)) (search needs), small B), omega (arith, B .k-high), omega (arith, l .inv .1)))
 
 add-a : tie.Need-add-a Inv-loop μ-loop
 add-a c = search needs

@@ -1,6 +1,6 @@
 use Rattle.rules.specs.Machine.{lent}
 use Rattle.rules.specs.Difference.{pairStep}
-use Rattle.learning.specs.Pairs.{Here, here}
+use Rattle.learning.specs.Pairs.{Here, here, small}
 use native.Mathlib.Omega.{arith}
 use mathlib.Core.Path.{_≡_, refl, sym, ap, _∙_}
 use Prim.Native.Nat.{ℕ, _+_, _*_, _-_, _/_, _%_, _<_, _≤_}
@@ -23,7 +23,7 @@ next-requires : tie.Need-next-requires
 next-requires c κs = at (c .before .before) .first
 
 mul-result : tie.Need-mul-result
-mul-result c = rw (c .next .ensures) (omega (arith, at (c .before .before .before) .next, at (c .before .before .before) .small))
+mul-result c = rw (c .next .ensures) (omega (arith, at (c .before .before .before) .next, small (c .before .before .before .pre .0)))
 
 rem-next : tie.Need-rem-next
 rem-next c = search needs
@@ -32,7 +32,7 @@ next-requires-2 : tie.Need-next-requires-2
 next-requires-2 c κs = at (c .before .before .before) .second
 
 add-result : tie.Need-add-result
-add-result c = rw (c .next2 .ensures, c .before .next .ensures) (omega (arith, at (c .before .before .before .before) .next, at (c .before .before .before .before) .small))
+add-result c = rw (c .next2 .ensures, c .before .next .ensures) (omega (arith, at (c .before .before .before .before) .next, small (c .before .before .before .before .pre .0)))
 
 returns : tie.Need-returns
 unfolding pairStep lent
