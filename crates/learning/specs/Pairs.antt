@@ -12,14 +12,15 @@ use lib.Arith.{digits-lt}
 use lib.Dec.{eqb, ltb}
 use Rattle.rules.specs.Tests.{eqb-true, eqb-false, lt-yes, lt-no}
 use Rattle.rules.specs.Words.{Word, Below}
+use Rattle.rules.specs.Areas.{put}
 use Rattle.rules.specs.Seek.{seek}
 use Rattle.rules.specs.Search.{Entry, starts, walk, meetAll, exploreFrom, explore, Explored}
 use Rattle.rules.specs.SearchLaws as search
 use Rattle.rules.specs.MachineLaws.{walk-low}
 use Rattle.rules.specs.Machine.{Machine, lent}
-use Rattle.rules.specs.Difference.{pairStep, pairApart}
+use Rattle.rules.specs.Difference.{pairStep, pairApart, pairs, firstApart, wordApart, difference}
 use Rattle.machine.specs.Lent.{Steps, link}
-use Rattle.learning.specs.Queue.{entries, entries-length, entries-at}
+use Rattle.learning.specs.Queue.{wordAt, entries, entries-length, entries-at}
 
 -- words and others lend machines of n and m states over the same k letters, within the paper's ranges
 pub record Beside (n m k : ℕ) (words others : List ℕ) : Type 0 where
@@ -70,6 +71,10 @@ module _ (step : ℕ → ℕ → ℕ) (start k size : ℕ) (stays : (x a : ℕ) 
   unfolding explore
   under-starts = let z : size - 0 ≡ size = omega arith in rw z
 
+  pub under-ends : Underway step start k size size (explore eqb step start k size)
+  unfolding exploreFrom
+  under-ends = let z : size - size ≡ 0 = omega arith in rw z
+
   module _ (at : ℕ) (queue : List (Entry ℕ)) (U : Underway step start k size at queue) where
     -- the queue is the beginning of the whole
     more : search.Grown queue (explore eqb step start k size)
@@ -114,3 +119,55 @@ apartAt M N k nodes j = pairApart M N (getD nodes (j / k) 0) (j % k)
 unfoldable pub firstOf : Machine → Machine → ℕ → List ℕ → ℕ → ℕ
 unfolding seek pairApart
 firstOf M N k nodes count = seek (apartAt M N k nodes) 0 (count * k)
+
+seek-same : (p q : ℕ → Bool) (i n : ℕ) → ((j : ℕ) → j < i + n → p j ≡ q j) → seek p i n ≡ seek q i n
+unfolding seek
+seek-same p q i zero f = refl
+seek-same p q i (suc n) f =
+    ap (λ (b : Bool). elim b [ true ↦ i | false ↦ seek p (suc i) n ]) (f i (omega arith))
+    ∙ ap (λ (r : ℕ). elim (q i) [ true ↦ i | false ↦ r ]) (seek-same p q (suc i) n (λ j h. f j (omega arith)))
+
+-- ---- what a search that found the least difference writes, and answers
+abbrev pub foundLength : Option Word → ℕ
+foundLength none = 0
+foundLength (some w) = length w
+
+abbrev pub foundPut : Option Word → List ℕ → List ℕ
+foundPut none area = area
+foundPut (some w) area = put 0 w area
+
+-- arrays that hold all pairs, and the first place and letter in them: the least difference
+module _ (k : ℕ) (pos : 0 < k) (M N : Machine) (s t : ℕ) (nodes parent letter : List ℕ) (count r : ℕ) (all : entries nodes parent letter count ≡ pairs M N k s t) (first : r ≡ firstOf M N k nodes count) where
+  -- the arrays' queue
+  abbrev queue : List (Entry ℕ)
+  queue = entries nodes parent letter count
+
+  abbrev start : ℕ
+  start = s * N .states + t
+
+  size : length queue * k ≡ count * k
+  size = ap (λ (n : ℕ). n * k) (entries-length nodes parent letter count)
+
+  first-of : firstApart M N k start queue ≡ r
+  unfolding firstApart firstOf
+  first-of =
+      ap (seek (λ (j : ℕ). pairApart M N (getD queue (j / k) (starts start) .node) (j % k)) 0) size
+      ∙ seek-same _ (apartAt M N k nodes) 0 (count * k)
+      (λ j h. ap (λ (e : Entry ℕ). pairApart M N (e .node) (j % k)) (entries-at nodes parent letter count (j / k) (starts start) (div-lt-iff-lt-mul pos .1 (omega arith))))
+      ∙ sym first
+
+  found : difference M N k s t ≡ wordApart M N k start queue r
+  unfolding difference
+  found =
+      ap (λ (q : List (Entry ℕ)). wordApart M N k start q (firstApart M N k start q)) (sym all) ∙ ap (wordApart M N k start queue) first-of
+
+  pub found-some : r < count * k → difference M N k s t ≡ some (wordAt parent letter (r / k) ++ (r % k ∷ []))
+  unfolding wordApart
+  found-some h =
+      found
+      ∙ (rw (lt-yes r (length queue * k) (omega (arith, size)), wordApart))
+      ∙ ap (λ (e : Entry ℕ). some (e .word ++ (r % k ∷ []))) (entries-at nodes parent letter count (r / k) (starts start) (div-lt-iff-lt-mul pos .1 h))
+
+  pub found-none : count * k ≤ r → difference M N k s t ≡ none
+  unfolding wordApart
+  found-none h = found ∙ (rw (lt-no r (length queue * k) (omega (arith, size)), wordApart))

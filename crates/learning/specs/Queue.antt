@@ -243,6 +243,19 @@ pub letters-over : (step : ℕ → ℕ → ℕ) (start : ℕ) (e : Entry ℕ) (k
 unfolding meetAll
 letters-over step start e k a queue h = let z : k - a ≡ 0 = omega arith in rw z
 
+-- arrays as they are made
+pub fresh : (size : ℕ) → size ≡ 2304 → Holds (replicate size 0) (replicate size false) (replicate size 0) (replicate size 0) 0
+unfolding entries known
+fresh size e = record {
+  queue-size = length-replicate size 0 ∙ e;
+  seen-size = length-replicate size false ∙ e;
+  parent-size = length-replicate size 0 ∙ e;
+  letter-size = length-replicate size 0 ∙ e;
+  earlier = λ p h l. absurd (not-suc-le-zero l);
+  marks = λ x h. getD-replicate size x false false (omega arith);
+  full = marked-none size;
+}
+
 -- the word of a place that was stored at the end
 next-word : (parent letter : List ℕ) (count from a : ℕ) → count < length parent → count < length letter → Earlier (set parent count from) (suc count) → Earlier parent count → from ≤ count - 1
     → wordAt (set parent count from) (set letter count a) count ≡ onward count (wordAt parent letter from) a

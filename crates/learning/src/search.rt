@@ -10,8 +10,9 @@ ghost use Rattle.rules.specs.Areas.{put};
 ghost use Rattle.rules.specs.Search.{meetAll};
 ghost use Rattle.rules.specs.Search as search;
 ghost use Rattle.rules.specs.Difference.{pairStep, pairApart};
+ghost use Rattle.rules.specs.Difference as rule;
 ghost use Rattle.learning.specs.Queue.{wordAt, entryAt, entries, Earlier, Holds, joined, onward};
-ghost use Rattle.learning.specs.Pairs.{Beside, firstOf};
+ghost use Rattle.learning.specs.Pairs.{Beside, firstOf, foundLength, foundPut};
 
 pub fn pair_next(
     words: &[u16],
@@ -202,4 +203,81 @@ pub fn first_apart(
         j += 1;
     }
     j
+}
+
+// The least word that the state `s` of the first machine and `t` of the second answer differently is put to the start of `into`. Answers its
+// length, 0 where there is none. The arrays have no place marked yet.
+pub fn differ(
+    words: &[u16],
+    n: usize,
+    others: &[u16],
+    m: usize,
+    k: usize,
+    s: usize,
+    t: usize,
+    queue: &mut [u16; 2304],
+    seen: &mut [bool; 2304],
+    parent: &mut [u16; 2304],
+    letter: &mut [u8; 2304],
+    into: &mut [u8],
+) -> usize
+    requires { ⌜ Beside n m k (now words) (now others) ⌝ }
+    requires { ⌜ Holds (now queue) (now seen) (now parent) (now letter) 0 ⌝ }
+    requires { ⌜ (s < n) × (t < m) × (n + m ≤ length (now into)) ⌝ }
+    ensures { λ r. ⌜ r ≡ foundLength (rule.difference (link n k (now (words .entry))) (link m k (now (others .entry))) k s t) ⌝ }
+    ensures { λ r. ⌜ now (into .exit) ≡ foundPut (rule.difference (link n k (now (words .entry))) (link m k (now (others .entry))) k s t) (now (into .entry)) ⌝ }
+{
+    let count = explore(
+        words,
+        n,
+        others,
+        m,
+        k,
+        s * m + t,
+        queue,
+        seen,
+        parent,
+        letter,
+    );
+    let r = first_apart(words, n, others, m, k, queue, count);
+    if r < count * k {
+        let end = spell(parent, letter, r / k, into, 0);
+        into[end] = (r % k % 256) as u8;
+        return end + 1;
+    }
+    0
+}
+
+// Rule 5: the least word on which two machines differ is put to the start of `into`. Answers its length, 0 where there is none.
+pub fn difference(
+    words: &[u16],
+    n: usize,
+    others: &[u16],
+    m: usize,
+    k: usize,
+    into: &mut [u8],
+) -> usize
+    requires { ⌜ Beside n m k (now words) (now others) ⌝ }
+    requires { ⌜ n + m ≤ length (now into) ⌝ }
+    ensures { λ r. ⌜ r ≡ foundLength (rule.difference (link n k (now (words .entry))) (link m k (now (others .entry))) k 0 0) ⌝ }
+    ensures { λ r. ⌜ now (into .exit) ≡ foundPut (rule.difference (link n k (now (words .entry))) (link m k (now (others .entry))) k 0 0) (now (into .entry)) ⌝ }
+{
+    let mut queue = [0u16; 2304];
+    let mut seen = [false; 2304];
+    let mut parent = [0u16; 2304];
+    let mut letter = [0u8; 2304];
+    differ(
+        words,
+        n,
+        others,
+        m,
+        k,
+        0,
+        0,
+        &mut queue,
+        &mut seen,
+        &mut parent,
+        &mut letter,
+        into,
+    )
 }
