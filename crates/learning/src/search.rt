@@ -1,17 +1,18 @@
 // Breadth first search over pairs of states of two lent machines. The pair of s and t is s·m + t. Place p of the queue has its pair, the place
 // from which it was met, and the letter: these spell the least word that leads to it.
 ghost use mathlib.Core.Path.{_≡_};
-ghost use mathlib.Core.List.{List};
+ghost use mathlib.Core.List.{List, _∷_};
 ghost use Prim.Native.Nat.{ℕ, suc, _+_, _*_, _-_, _<_, _≤_};
 ghost use lib.ListN.{length, getD};
 ghost use lib.Dec.{eqb};
-ghost use Rattle.machine.specs.Lent.{link};
+ghost use Rattle.machine.specs.Lent.{link, Steps};
 ghost use Rattle.rules.specs.Areas.{put};
 ghost use Rattle.rules.specs.Search.{meetAll};
 ghost use Rattle.rules.specs.Search as search;
 ghost use Rattle.rules.specs.Difference.{pairStep, pairApart};
 ghost use Rattle.rules.specs.Difference as rule;
 ghost use Rattle.learning.specs.Queue.{wordAt, entryAt, entries, Earlier, Holds, joined, onward};
+ghost use Rattle.learning.specs.Listing.{Listed, Numbered, Still};
 ghost use Rattle.learning.specs.Pairs.{Beside, firstOf, foundLength, foundPut};
 
 pub fn pair_next(
@@ -279,5 +280,85 @@ pub fn difference(
         &mut parent,
         &mut letter,
         into,
+    )
+}
+
+// The word of place `p` is put into slot `p` of `reach`.
+pub fn spell_slot(parent: &[u16; 2304], letter: &[u8; 2304], p: usize, reach: &mut [u8])
+    requires { ⌜ (p < 48) × Earlier (now parent) (suc p) × (2304 ≤ length (now reach)) ⌝ }
+    ensures { λ _. ⌜ now (reach .exit) ≡ put (p * 48) (length (wordAt (now (parent .entry)) (now (letter .entry)) p) ∷ wordAt (now (parent .entry)) (now (letter .entry)) p) (now (reach .entry)) ⌝ }
+{
+    let place = p * 48;
+    let end = spell(parent, letter, p, reach, place + 1);
+    reach[place] = ((end - place - 1) % 256) as u8;
+}
+
+// The states of the first `count` places are listed in `order`, and their words in the slots of `reach`.
+pub fn list_states(
+    queue: &[u16; 2304],
+    parent: &[u16; 2304],
+    letter: &[u8; 2304],
+    count: usize,
+    order: &mut [usize; 48],
+    reach: &mut [u8],
+)
+    requires { ⌜ (count ≤ 48) × Earlier (now parent) count ⌝ }
+    requires { ⌜ (length (now order) ≡ 48) × (2304 ≤ length (now reach)) ⌝ }
+    ensures { λ _. ⌜ Listed (now (queue .entry)) (now (parent .entry)) (now (letter .entry)) count (now (order .exit)) (now (reach .exit)) ⌝ }
+{
+    let mut p: usize = 0;
+    while p < count {
+        order[p] = machine::index(queue[p]);
+        spell_slot(parent, letter, p, reach);
+        p += 1;
+    }
+}
+
+// A machine beside one that stays in its single state: the pairs are its states. The arrays have no place marked yet.
+pub fn number_beside(
+    words: &[u16],
+    n: usize,
+    alone: &[u16],
+    k: usize,
+    queue: &mut [u16; 2304],
+    seen: &mut [bool; 2304],
+    parent: &mut [u16; 2304],
+    letter: &mut [u8; 2304],
+    order: &mut [usize; 48],
+    reach: &mut [u8],
+) -> usize
+    requires { ⌜ Beside n 1 k (now words) (now alone) × Still (now alone) ⌝ }
+    requires { ⌜ Holds (now queue) (now seen) (now parent) (now letter) 0 ⌝ }
+    requires { ⌜ (length (now order) ≡ 48) × (2304 ≤ length (now reach)) ⌝ }
+    ensures { λ r. ⌜ Numbered k (link n k (now (words .entry))) (now (order .exit)) (now (reach .exit)) r ⌝ }
+{
+    let count = explore(words, n, alone, 1, k, 0, queue, seen, parent, letter);
+    list_states(queue, parent, letter, count, order, reach);
+    count
+}
+
+// The states that words reach, by their least words: `order` gets the states, `reach` the words in slots of 48. Answers how many.
+pub fn number(words: &[u16], n: usize, k: usize, order: &mut [usize; 48], reach: &mut [u8]) -> usize
+    requires { ⌜ Steps n k (now words) ⌝ }
+    requires { ⌜ (n ≤ 48) × (1 ≤ k) × (k ≤ 12) ⌝ }
+    requires { ⌜ (length (now order) ≡ 48) × (2304 ≤ length (now reach)) ⌝ }
+    ensures { λ r. ⌜ Numbered k (link n k (now (words .entry))) (now (order .exit)) (now (reach .exit)) r ⌝ }
+{
+    let mut queue = [0u16; 2304];
+    let mut seen = [false; 2304];
+    let mut parent = [0u16; 2304];
+    let mut letter = [0u8; 2304];
+    let alone = [0u16; 12];
+    number_beside(
+        words,
+        n,
+        &alone,
+        k,
+        &mut queue,
+        &mut seen,
+        &mut parent,
+        &mut letter,
+        order,
+        reach,
     )
 }
