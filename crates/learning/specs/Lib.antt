@@ -5,3 +5,6 @@ pub mod Desk
 pub mod ClosingLaws
 pub mod Cut
 pub mod RoundLaws
+pub mod Queue
+pub mod Pairs
+pub mod Listing

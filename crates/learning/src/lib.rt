@@ -4,3 +4,4 @@ pub mod records;
 pub mod rounds;
 pub mod store;
 pub mod table;
+pub mod search;

@@ -24,3 +24,4 @@ pub mod DifferenceLaws
 pub mod Links
 pub mod ByHand
 pub mod SheetLaws
+pub mod Alone
