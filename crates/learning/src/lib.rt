@@ -2,6 +2,6 @@
 pub mod closing;
 pub mod records;
 pub mod rounds;
+pub mod search;
 pub mod store;
 pub mod table;
-pub mod search;
