@@ -15,15 +15,16 @@ use Rattle.rules.specs.Machine.{Machine, Complete, lent, answer, ask, Equal, Sm
 use Rattle.rules.specs.MachineLaws.{ask-snoc}
 use Rattle.rules.specs.Table.{conjecture}
 use Rattle.rules.specs.Rounds.{Stop, cellCount}
-use Rattle.rules.specs.Links.{counterexample, stopped, at-stop, conjecture-complete, rounds-enough, words-few, done-smallest}
+use Rattle.rules.specs.Links.{counterexample, stopped, at-stop, conjecture-complete, rounds-enough, words-few}
 use Rattle.rules.specs.DifferenceLaws.{Apart, found, found-least, found-last}
 use Rattle.rules.specs.Sheets.{proofBytes, wordBytes, CX}
-use Rattle.rules.specs.Areas.{over}
+use Rattle.rules.specs.Areas.{over, zeros}
 use Rattle.rules.specs.Answer.{refused, gives}
 use Rattle.machine.specs.Lent.{link}
 use Rattle.machine.specs.LentLaws.{lent-sound}
-use Rattle.learning.specs.Learner.{Counts, done, unfinished, Left, tableBytes, learnCheck, counts, learn}
-use Rattle.learning.specs.Outcomes.{taken, Outcome, over-limit, is-done, is-open, AtDone, AtOpen, at-ten, at-done, at-open, ended}
+use Rattle.learning.specs.Learner.{Counts, done, unfinished, Left, tableSize, tableBytes, learnCheck, counts, learn}
+use Rattle.learning.specs.Outcomes as outcomes
+use Rattle.learning.specs.Outcomes.{taken, Outcome, over-limit, is-done, is-open, AtDone, AtOpen, at-ten, ten-at, at-done, at-open, ended}
 use Rattle.learning.specs.Proper.{Proper, sound-proper}
 use Rattle.learning.specs.Bounds.{stop-bounds}
 use Rattle.learning.specs.Finished as finish
@@ -53,6 +54,11 @@ pub record Differs (k : ℕ) (M N : Machine) (w : Word) : Type 0 where
 left-none : {A : Type 0} {w : Word} → _≡_ {A = Option Word} none (some w) → A
 left-none e = let z : _≡_ {A = ℕ} 0 1 = cc in absurd (omega arith)
 
+-- REFUSED at the door: no byte of either area changes.
+pub refused-leaves : (n k : ℕ) (words : List ℕ) (L R : ℕ) (table sheet : List ℕ) (x : ℕ) → learnCheck n k words L R table sheet ≡ refused x
+    → learn n k words L R table sheet ≡ record { answer = refused x; table = table; sheet = sheet }
+refused-leaves = outcomes.refused-leaves
+
 module _ (n k : ℕ) (words : List ℕ) (L R : ℕ) (table sheet : List ℕ) (asked : learnCheck n k words L R table sheet ≡ gives tt) where
   proper : Proper k (link n k words)
   proper = sound-proper (lent-sound n k words (taken n k words L R table sheet asked .machine))
@@ -72,6 +78,14 @@ module _ (n k : ℕ) (words : List ℕ) (L R : ℕ) (table sheet : List ℕ) (as
         few = b .words;
         most = mul-le-mul rows columns;
       }
+
+  -- TEN. It is given exactly when S has more than L words where the rounds stop; the table's 34,043 bytes are then zero, and the rest is as it was.
+  pub ten-when : (learn n k words L R table sheet .answer ≡ refused 10) ↔ (L < length (stopped k (link n k words) R .S))
+  ten-when = let o = ended n k words L R table sheet asked in (λ e. at-ten o e .0, ten-at o)
+
+  pub ten-leaves : learn n k words L R table sheet .answer ≡ refused 10
+      → learn n k words L R table sheet ≡ record { answer = refused 10; table = over (zeros tableSize) table; sheet = sheet }
+  ten-leaves e = at-ten (ended n k words L R table sheet asked) e .1
 
   module _ (c : Counts) (is : learn n k words L R table sheet .answer ≡ gives (done c)) where
     at : AtDone k (link n k words) L (stopped k (link n k words) R) table sheet c (learn n k words L R table sheet)
@@ -205,17 +219,8 @@ module _ (n k : ℕ) (words : List ℕ) (L : ℕ) (table sheet : List ℕ) (aske
   -- 10 IS EXACT: it is given exactly when every complete machine that is equal to the lent one has more than L states.
   pub ten-exact : (learn n k words L 47 table sheet .answer ≡ refused 10) ↔ ((N : Machine) → Complete k N → Equal k (link n k words) N → L < N .states)
   unfolding conjecture
-  ten-exact = (λ e N wholeN equal. let h = at-ten end e in let f = words-few k (link n k words) (is-proper .k-low) (is-proper .whole) 47 N wholeN equal in omega arith, λ f. go f end)
-    where
-      M : Machine
-      M = link n k words
-
-      -- the conjecture is an equal complete machine, with a state for each word of S
-      more : ((N : Machine) → Complete k N → Equal k M N → L < N .states) → L < length (stopped k M 47 .S)
-      more f = let m = done-smallest k M (is-proper .k-low) (is-proper .whole) 47 none-left in f (conjectured k M 47) (m .complete) (m .equal)
-
-      go : ((N : Machine) → Complete k N → Equal k M N → L < N .states) → Outcome k M L (stopped k M 47) table sheet (learn n k words L 47 table sheet)
-          → learn n k words L 47 table sheet .answer ≡ refused 10
-      go f (over-limit h l) = ap (λ (l : Left). l .answer) l
-      go f (is-done h e l) = let m = more f in absurd (omega arith)
-      go f (is-open w h e l) = let m = more f in absurd (omega arith)
+  ten-exact = (
+    λ e N wholeN equal. let h = at-ten end e .0 in let f = words-few k (link n k words) (is-proper .k-low) (is-proper .whole) 47 N wholeN equal in omega arith,
+    -- the conjecture is such a machine, with a state for each word of S
+    λ f. let m = finish.smallest is-proper 47 none-left in ten-at end (f (conjectured k (link n k words) 47) (m .complete) (m .equal)),
+  )

@@ -29,12 +29,9 @@ pub record Taken (n k : ℕ) (words : List ℕ) (L R : ℕ) (table sheet : List 
   pub table-long : tableSize ≤ length table
   pub sheet-long : sheetSize ≤ length sheet
 
--- an answer that goes on with the next
-both : (a b : Answer (Unit {0})) → _>>_ a b ≡ gives tt → (a ≡ gives tt) × (b ≡ gives tt)
-both (refused x) b e = let z : _≡_ {A = ℕ} 0 1 = cc in absurd (clash z)
-  where
-    clash : _≡_ {A = ℕ} 0 1 → ⊥
-    clash z = omega arith
+-- one check and then another
+pub both : (a b : Answer (Unit {0})) → _>>_ a b ≡ gives tt → (a ≡ gives tt) × (b ≡ gives tt)
+both (refused x) b e = let z : _≡_ {A = ℕ} 0 1 = cc in absurd (omega arith)
 both (gives u) b e = (refl, e)
 
 pub taken : (n k : ℕ) (words : List ℕ) (L R : ℕ) (table sheet : List ℕ) → learnCheck n k words L R table sheet ≡ gives tt → Taken n k words L R table sheet
@@ -58,6 +55,11 @@ pub learn-leaves : (n k : ℕ) (words : List ℕ) (L R : ℕ) (table sheet : Lis
     → learn n k words L R table sheet ≡ stopLeaves k (link n k words) L (stopped k (link n k words) R) table sheet
 unfolding learn learnLeaves
 learn-leaves n k words L R table sheet e = ap (λ (a : Answer (Unit {0})). learnLeaves a n k words L R table sheet) e
+
+pub refused-leaves : (n k : ℕ) (words : List ℕ) (L R : ℕ) (table sheet : List ℕ) (x : ℕ) → learnCheck n k words L R table sheet ≡ refused x
+    → learn n k words L R table sheet ≡ record { answer = refused x; table = table; sheet = sheet }
+unfolding learn learnLeaves
+refused-leaves n k words L R table sheet x e = ap (λ (a : Answer (Unit {0})). learnLeaves a n k words L R table sheet) e
 
 -- ---- where the rounds stop
 abbrev pub tenLeaves : List ℕ → List ℕ → Left
@@ -123,10 +125,15 @@ pub record AtOpen (k : ℕ) (M : Machine) (L : ℕ) (x : Stop) (table sheet : Li
   pub counted : c ≡ counts k x (wordBytes CX word)
 
 module _ {k : ℕ} {M : Machine} {L : ℕ} {x : Stop} {table sheet : List ℕ} {left : Left} where
-  pub at-ten : Outcome k M L x table sheet left → left .answer ≡ refused 10 → L < length (x .S)
-  at-ten (over-limit h l) e = h
+  pub at-ten : Outcome k M L x table sheet left → left .answer ≡ refused 10 → (L < length (x .S)) × (left ≡ tenLeaves table sheet)
+  at-ten (over-limit h l) e = (h, l)
   at-ten (is-done h f l) e = ten-done (sym e ∙ ap (λ (y : Left). y .answer) l)
   at-ten (is-open w h f l) e = ten-open (sym e ∙ ap (λ (y : Left). y .answer) l)
+
+  pub ten-at : Outcome k M L x table sheet left → L < length (x .S) → left .answer ≡ refused 10
+  ten-at (over-limit h l) m = ap (λ (y : Left). y .answer) l
+  ten-at (is-done h f l) m = absurd (omega arith)
+  ten-at (is-open w h f l) m = absurd (omega arith)
 
   pub at-done : {c : Counts} → Outcome k M L x table sheet left → left .answer ≡ gives (done c) → AtDone k M L x table sheet c left
   at-done (over-limit h l) e = ten-done (sym (ap (λ (y : Left). y .answer) l) ∙ e)

@@ -1,12 +1,12 @@
 -- How long a proof sheet is: exactly, and at most.
 use mathlib.Core.Path.{_≡_}
-use mathlib.Core.List.{List, [], _∷_, _++_}
+use mathlib.Core.List.{List, [], _∷_}
 use Prim.Native.Nat.{ℕ, suc, _+_, _*_, _≤_, _<_}
 use native.Mathlib.Nat.{suc-mul}
 use native.Mathlib.Omega.{arith}
 use lib.ListN.{length, getD, length-append}
 use Rattle.rules.specs.Words.{Word}
-use Rattle.rules.specs.Sheets.{AW, CW, rowBytes, wordBytes, wordsBytes, Proof, proofBytes}
+use Rattle.rules.specs.Sheets.{AW, CW, wordBytes, wordsBytes, Proof, proofBytes}
 use Rattle.rules.specs.SheetLaws.{rows-length, rows-most}
 
 -- records of words of at most b letters

@@ -43,7 +43,7 @@ onto m f low apart t ht = go (least (λ i. f i ≡ t) (λ i. ℕ-discrete (f i) 
         apart′ i j h hj (yes hi) (no l) = never i hi
         apart′ i j h hj (no l) e = absurd (omega arith)
 
-module _ (k : ℕ) (M N : Machine) (whole : Complete k N) (equal : Equal k M N) where
+module _ (k : ℕ) (M N : Machine) (equal : Equal k M N) where
   -- after a word, N's state answers as M does
   pub after : (u e : Word) → Below k u → Below k e → 1 ≤ length e → ask M (u ++ e) ≡ lastFrom N 0 (walk (N .next) 0 u) e
   unfolding ask
@@ -56,70 +56,84 @@ module _ (k : ℕ) (M N : Machine) (whole : Complete k N) (equal : Equal k M N) 
   after-letter u a bu ha =
       sym (ask-snoc M u a) ∙ equal-asks k M N equal (u ++ (a ∷ [])) (below-append k u (a ∷ []) bu (ha, tt)) (simp length-append (omega arith)) ∙ ask-snoc N u a
 
-  module _ (E S : List Word) (told : Told (ask M) E S) (words : Words k S) (columns : Columns 1 E) (letters : Words k E) (few : N .states ≤ length S) where
-    abbrev ends : ℕ → ℕ
-    ends i = walk (N .next) 0 (getD S i [])
+-- words S that the columns E tell apart in M, and an equal machine N with no more states than there are words
+pub record Tells (k : ℕ) (M N : Machine) (E S : List Word) : Type 0 where
+  pub whole : Complete k N
+  pub equal : Equal k M N
+  pub told : Told (ask M) E S
+  pub words : Words k S
+  pub columns : Columns 1 E
+  pub letters : Words k E
+  pub few : N .states ≤ length S
 
-    ends-low : (i : ℕ) → i < length S → ends i < N .states
-    ends-low i h = walk-low (N .states) k (N .next) (whole .1) 0 (getD S i []) (whole .0) (words i h)
+module _ {k : ℕ} {M N : Machine} {E S : List Word} (T : Tells k M N E S) where
+  abbrev ends : ℕ → ℕ
+  ends i = walk (N .next) 0 (getD S i [])
 
-    -- states that answer the columns alike are those of one word
-    one-word : (i j : ℕ) → i < length S → j < length S → ((c : ℕ) → c < length E → lastFrom N 0 (ends i) (getD E c []) ≡ lastFrom N 0 (ends j) (getD E c [])) → i ≡ j
-    one-word i j hi hj f =
-        told-place (ask M) E S told i j hi hj (cells-ext (ask M) E (getD S i []) (getD S j [])
-        (λ c h. after (getD S i []) (getD E c []) (words i hi) (letters c h) (columns c h) ∙ f c h ∙ sym (after (getD S j []) (getD E c []) (words j hj) (letters c h) (columns c h))))
+  low : (w : Word) → Below k w → walk (N .next) 0 w < N .states
+  low w b = walk-low (N .states) k (N .next) (T .whole .1) 0 w (T .whole .0) b
 
-    -- each state is reached by a word of S
-    pub each-reached : (t : ℕ) → t < N .states → (i : ℕ) × (i < length S) × (walk (N .next) 0 (getD S i []) ≡ t)
-    each-reached t h =
-        let x = onto (length S) ends (λ i l. let b = ends-low i l in omega arith)
-        (λ i j l hj e. let q = one-word i j (omega arith) hj (λ c g. ap (λ (s : ℕ). lastFrom N 0 s (getD E c [])) e) in absurd (omega arith)) t (omega arith) in
-        (x .at, x .below, x .has)
+  -- after a word, a column is answered at the state that it leads to
+  answered : (u : Word) → Below k u → (c : ℕ) → c < length E → ask M (u ++ getD E c []) ≡ lastFrom N 0 (walk (N .next) 0 u) (getD E c [])
+  answered u b c h = after k M N (T .equal) u (getD E c []) b (T .letters c h) (T .columns c h)
 
-    -- states that answer the columns alike are one
-    pub one-state : (s t : ℕ) → s < N .states → t < N .states → ((c : ℕ) → c < length E → lastFrom N 0 s (getD E c []) ≡ lastFrom N 0 t (getD E c [])) → s ≡ t
-    one-state s t hs ht f =
-        let i = each-reached s hs in
-        let j = each-reached t ht in
-        let q = one-word (i .0) (j .0) (i .1) (j .1)
-        (λ c h. ap (λ (x : ℕ). lastFrom N 0 x (getD E c [])) (i .2) ∙ f c h ∙ sym (ap (λ (x : ℕ). lastFrom N 0 x (getD E c [])) (j .2))) in
-        sym (i .2) ∙ ap ends q ∙ j .2
+  -- words of S that lead to states which answer the columns alike are one
+  one-word : (i j : ℕ) → i < length S → j < length S → ((c : ℕ) → c < length E → lastFrom N 0 (ends i) (getD E c []) ≡ lastFrom N 0 (ends j) (getD E c [])) → i ≡ j
+  one-word i j hi hj f =
+      told-place (ask M) E S (T .told) i j hi hj
+      (cells-ext (ask M) E (getD S i []) (getD S j []) (λ c h. answered (getD S i []) (T .words i hi) c h ∙ f c h ∙ sym (answered (getD S j []) (T .words j hj) c h)))
 
-    -- words with the same cells lead to one state
-    pub same-cells : (u v : Word) → Below k u → Below k v → cells (ask M) E u ≡ cells (ask M) E v → walk (N .next) 0 u ≡ walk (N .next) 0 v
-    same-cells u v bu bv e =
-        one-state (walk (N .next) 0 u) (walk (N .next) 0 v) (low u bu) (low v bv)
-        (λ c h. sym (after u (getD E c []) bu (letters c h) (columns c h)) ∙ cells-at (ask M) E u v e c h ∙ after v (getD E c []) bv (letters c h) (columns c h))
-      where
-        low : (w : Word) → Below k w → walk (N .next) 0 w < N .states
-        low w b = walk-low (N .states) k (N .next) (whole .1) 0 w (whole .0) b
+  -- each state is reached by a word of S
+  pub each-reached : (t : ℕ) → t < N .states → Least (λ i. walk (N .next) 0 (getD S i []) ≡ t) (length S)
+  each-reached t h =
+      let f = T .few in
+      onto (length S) ends (λ i l. let b = low (getD S i []) (T .words i l) in omega arith)
+      (λ i j l hj e. let q = one-word i j (omega arith) hj (λ c g. ap (λ (s : ℕ). lastFrom N 0 s (getD E c [])) e) in absurd (omega arith)) t (omega arith)
 
-    -- words that lead M to one state lead N to one state
-    pub one-for-each : (u v : Word) → Below k u → Below k v → walk (M .next) 0 u ≡ walk (M .next) 0 v → walk (N .next) 0 u ≡ walk (N .next) 0 v
-    unfolding ask
-    one-for-each u v bu bv e =
-        same-cells u v bu bv (cells-ext (ask M) E u v (λ c h. last-append M 0 0 u (getD E c [])
-        ∙ last-any M (lastFrom M 0 0 u) 0 (walk (M .next) 0 u) (getD E c []) (columns c h)
-        ∙ ap (λ (s : ℕ). lastFrom M 0 s (getD E c [])) e
-        ∙ last-any M 0 (lastFrom M 0 0 v) (walk (M .next) 0 v) (getD E c []) (columns c h)
-        ∙ sym (last-append M 0 0 v (getD E c []))))
+  -- states that answer the columns alike are one
+  pub one-state : (s t : ℕ) → s < N .states → t < N .states → ((c : ℕ) → c < length E → lastFrom N 0 s (getD E c []) ≡ lastFrom N 0 t (getD E c [])) → s ≡ t
+  one-state s t hs ht f =
+      let i = each-reached s hs in
+      let j = each-reached t ht in
+      let q = one-word (i .at) (j .at) (i .below) (j .below)
+      (λ c h. ap (λ (x : ℕ). lastFrom N 0 x (getD E c [])) (i .has) ∙ f c h ∙ sym (ap (λ (x : ℕ). lastFrom N 0 x (getD E c [])) (j .has))) in
+      sym (i .has) ∙ ap ends q ∙ j .has
 
-    -- N puts out what M does
-    pub outputs : (P : ℕ → Type 0) → ((s a : ℕ) → P (M .out s a)) → (t a : ℕ) → t < N .states → a < k → P (N .out t a)
-    outputs P f t a h ha =
-        let i = each-reached t h in
-        rw (sym (i .2), sym (after-letter (getD S (i .0) []) a (words (i .0) (i .1)) ha)) (f (walk (M .next) 0 (getD S (i .0) [])) a)
+  -- words with the same cells lead to one state
+  pub same-cells : (u v : Word) → Below k u → Below k v → cells (ask M) E u ≡ cells (ask M) E v → walk (N .next) 0 u ≡ walk (N .next) 0 v
+  same-cells u v bu bv e =
+      one-state (walk (N .next) 0 u) (walk (N .next) 0 v) (low u bu) (low v bv)
+      (λ c h. sym (answered u bu c h) ∙ cells-at (ask M) E u v e c h ∙ answered v bv c h)
+
+  -- words that lead M to one state lead N to one state
+  pub one-for-each : (u v : Word) → Below k u → Below k v → walk (M .next) 0 u ≡ walk (M .next) 0 v → walk (N .next) 0 u ≡ walk (N .next) 0 v
+  unfolding ask
+  one-for-each u v bu bv e =
+      same-cells u v bu bv (cells-ext (ask M) E u v (λ c h. last-append M 0 0 u (getD E c [])
+      ∙ last-any M (lastFrom M 0 0 u) 0 (walk (M .next) 0 u) (getD E c []) (T .columns c h)
+      ∙ ap (λ (s : ℕ). lastFrom M 0 s (getD E c [])) e
+      ∙ last-any M 0 (lastFrom M 0 0 v) (walk (M .next) 0 v) (getD E c []) (T .columns c h)
+      ∙ sym (last-append M 0 0 v (getD E c []))))
+
+  -- N puts out what M does
+  pub outputs : (P : ℕ → Type 0) → ((s a : ℕ) → P (M .out s a)) → (t a : ℕ) → t < N .states → a < k → P (N .out t a)
+  outputs P f t a h ha =
+      let i = each-reached t h in
+      let w = getD S (i .at) [] in
+      rw (sym (i .has), sym (after-letter k M N (T .equal) w a (T .words (i .at) (i .below)) ha)) (f (walk (M .next) 0 w) a)
 
 -- A closed table with as many words as the machine has states leaves no counterexample.
 module _ (k : ℕ) (pos : 0 < k) (M : Machine) (whole : Complete k M) {p : ℕ} {E S : List Word} (st : Stage (ask M) k 1 k p E S) (full : M .states ≤ length S) where
+  own : Tells k M M E S
+  own = record { whole = whole; equal = λ w b. refl; told = st .told; words = st .words; columns = st .columns; letters = st .letters; few = full }
+
   abbrev state : ℕ → ℕ
   state j = walk (M .next) 0 (getD S j [])
 
   steps : (j a : ℕ) → j < length S → a < k → state (move (ask M) E S j a) ≡ M .next (state j) a
   unfolding move
   steps j a h ha =
-      same-cells k M M whole (λ w b. refl) E S (st .told) (st .words) (st .columns) (st .letters) full
-      (getD S (move (ask M) E S j a) []) (getD S j [] ++ (a ∷ [])) (st .words (move (ask M) E S j a) (st .shut j a h ha))
+      same-cells own (getD S (move (ask M) E S j a) []) (getD S j [] ++ (a ∷ [])) (st .words (move (ask M) E S j a) (st .shut j a h ha))
       (below-append k (getD S j []) (a ∷ []) (st .words j h) (ha, tt)) (state-same (ask M) E S (getD S j [] ++ (a ∷ [])) (st .shut j a h ha))
       ∙ walk-append (M .next) 0 (getD S j []) (a ∷ [])
 

@@ -1,6 +1,6 @@
 -- The state map: a machine state that words reach has the number of the model state that each of these words reaches; a state that no word
 -- reaches has 255. And a smallest model stays one when it is numbered anew.
-use mathlib.Core.Path.{_≡_, sym, ap, _∙_}
+use mathlib.Core.Path.{_≡_, ap, _∙_}
 use mathlib.Core.Logic.{_⊎_, inl, inr, _≢_}
 use mathlib.Core.Bool.{true, false}
 use mathlib.Core.List.{[]}
@@ -17,7 +17,7 @@ use Rattle.rules.specs.Machine.{Machine, Complete, SmallestModel}
 use Rattle.rules.specs.MachineLaws.{walk-low}
 use Rattle.rules.specs.FromLaws.{map-from-length, map-from-at}
 use Rattle.rules.specs.Numbering.{place, reached, order, reachingWords, renumbered, modelState, stateMap}
-use Rattle.rules.specs.NumberingLaws.{reached-explored, order-length, placed, leads, letters, renumbered-complete, renumbered-equal, number-of, word-at}
+use Rattle.rules.specs.NumberingLaws.{reached-explored, order-length, placed, leads, letters, renumbered-complete, renumbered-equal, word-at}
 
 -- ---- numbered anew
 pub renumbered-few : (k : ℕ) (C : Machine) → Complete k C → renumbered k C .states ≤ C .states
@@ -92,13 +92,11 @@ module _ (k : ℕ) (M : Machine) (whole : Complete k M) where
         go (inl e) = let r = least-reached s (ltb-yes (place (order k M) s) (length (order k M)) e) in absurd (f (r .word) (r .letters) (r .leads))
         go (inr e) = rw (e, modelState)
 
-    module _ (wholeC : Complete k C)
-        -- words that lead M to one state lead C to one state
-        (one : (u v : Word) → Below k u → Below k v → walk (M .next) 0 u ≡ walk (M .next) 0 v → walk (C .next) 0 u ≡ walk (C .next) 0 v) where
-      pub state-reached : (w : Word) → Below k w → modelState k M C (walk (M .next) 0 w) ≡ walk (renumbered k C .next) 0 w
-      unfolding modelState least-reached
-      state-reached w b =
-          let h = placed k M whole w b .0 in
-          let r = least-reached (walk (M .next) 0 w) h in
-          rw (lt-yes (place (order k M) (walk (M .next) 0 w)) (length (order k M)) h, modelState)
-          (ap (place (order k C)) (one (r .word) w (r .letters) b (r .leads)) ∙ sym (number-of k C wholeC w b))
+    -- where words that lead M to one state lead C to one state
+    pub state-placed : ((u v : Word) → Below k u → Below k v → walk (M .next) 0 u ≡ walk (M .next) 0 v → walk (C .next) 0 u ≡ walk (C .next) 0 v)
+        → (w : Word) → Below k w → modelState k M C (walk (M .next) 0 w) ≡ place (order k C) (walk (C .next) 0 w)
+    unfolding modelState least-reached
+    state-placed one w b =
+        let h = placed k M whole w b .0 in
+        let r = least-reached (walk (M .next) 0 w) h in
+        rw (lt-yes (place (order k M) (walk (M .next) 0 w)) (length (order k M)) h, modelState) (ap (place (order k C)) (one (r .word) w (r .letters) b (r .leads)))
