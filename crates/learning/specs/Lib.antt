@@ -8,3 +8,8 @@ pub mod RoundLaws
 pub mod Queue
 pub mod Pairs
 pub mod Listing
+pub mod Outcomes
+pub mod Proper
+pub mod Bounds
+pub mod Finished
+pub mod Demand2

@@ -8,3 +8,7 @@ pub mod MachineLaws
 pub mod Proofs
 pub mod Checker
 pub mod Cases
+pub mod Seen
+pub mod CheckerLaws
+pub mod SmallestSheets
+pub mod Demand3
