@@ -13,3 +13,4 @@ pub mod Proper
 pub mod Bounds
 pub mod Finished
 pub mod Demand2
+pub mod Start
