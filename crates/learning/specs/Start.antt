@@ -69,8 +69,8 @@ told-one ask E i (suc j) h hj = absurd (not-suc-le-zero (le-of-suc-le-suc hj))
 module _ (n k : ℕ) (words s rows columns table : List ℕ) (sound : Sound n k words) (O : Ones k columns k) (room : 2304 ≤ length s) (long : length rows ≡ 48)
     (large : 34043 ≤ length table) (zeros : (i : ℕ) → i < 34043 → getD table i 0 ≡ 0) (s⁺ : List ℕ) (stores : s⁺ ≡ put (0 * 48) (0 ∷ []) s) (table′ : List ℕ)
     (F : Filled 59 (cellOf (ask (link n k words)) k s⁺ 1 columns k) 0 (1 + k) 0 k table table′) where
-  words-are : wordsIn s⁺ 1 ≡ [] ∷ []
-  words-are = ap (λ (l : List ℕ). wordsIn l 1) stores ∙ first-words k s room
+  pub start-words : wordsIn s⁺ 1 ≡ [] ∷ []
+  start-words = ap (λ (l : List ℕ). wordsIn l 1) stores ∙ first-words k s room
 
   pub start-beyond : Beyond 34043 table table′
   start-beyond = filled-beyond (omega arith) (omega (arith, sound .k-high)) F
@@ -83,16 +83,16 @@ module _ (n k : ℕ) (words s rows columns table : List ℕ) (sound : Sound n k 
     room = omega (arith, ap length stores ∙ put-length (0 * 48) (0 ∷ []) s (omega arith));
     some = omega arith;
     few = sound .n-low;
-    short = subst Short (sym words-are) short-one;
+    short = subst Short (sym start-words) short-one;
     long = length-set rows 0 0 ∙ long;
     low = λ j h. rw (zeroth j h) (omega arith);
-    taken = λ j h. rw (zeroth j h) (sym (ap (λ (S : List Word). getD S j []) words-are ∙ empty j h));
+    taken = λ j h. rw (zeroth j h) (sym (ap (λ (S : List Word). getD S j []) start-words ∙ empty j h));
     columns-kept = O .kept;
     narrow = omega (arith, sound .k-high);
     ones = λ a h. ap (λ (E : List Word). getD E a []) (O .are) ∙ one-letter-at k a h;
     all = omega arith;
     large = omega (arith, F .size);
-    holds = subst (λ (S : List Word). Holds 59 34043 (ask (link n k words)) k (columnsIn columns k) S table′) (sym words-are)
+    holds = subst (λ (S : List Word). Holds 59 34043 (ask (link n k words)) k (columnsIn columns k) S table′) (sym start-words)
         (holds-columns (sound .k-low) (omega arith) blank (columnsIn columns k) filled);
   }
     where
@@ -116,4 +116,4 @@ module _ (n k : ℕ) (words s rows columns table : List ℕ) (sound : Sound n k 
           let one : k ≡ 1 * k = omega arith in
           subst (λ (i : ℕ). Filled 59 (g ([] ∷ [])) 0 (1 + i) 0 (length (columnsIn columns k)) table table′) one
           (subst (λ (i : ℕ). Filled 59 (g ([] ∷ [])) 0 (1 + k) 0 i table table′) (sym (stored-length 94 columns k))
-          (subst (λ (S : List Word). Filled 59 (g S) 0 (1 + k) 0 k table table′) words-are F))
+          (subst (λ (S : List Word). Filled 59 (g S) 0 (1 + k) 0 k table table′) start-words F))
