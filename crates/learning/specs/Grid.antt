@@ -3,22 +3,23 @@
 use mathlib.Core.Path.{_≡_, refl, sym, ap, ap₂, _∙_, subst}
 use mathlib.Core.Logic.{_⊎_, inl, inr, _≢_}
 use mathlib.Core.Bool.{Bool, true, false, _&&_}
-use mathlib.Core.List.{List, [], _∷_, _++_, map}
+use mathlib.Core.List.{List, [], _∷_, _++_, map, map-append}
 use Prim.Native.Nat.{ℕ, zero, suc, _+_, _*_, _-_, _/_, _%_, _≤_, _<_}
 use native.Mathlib.Nat.{mul-le-mul-right, suc-mul, div-add-mod', mod-lt, div-lt-iff-lt-mul}
 use native.Mathlib.Decide.{decLt, decLe}
 use native.Mathlib.Omega.{arith}
-use lib.ListN.{length, getD, take, drop, length-map, length-append, length-take, length-drop, List·getD-append}
-use lib.Seq.{getD-take, getD-drop, ext-getD, getD-append-add}
+use lib.ListN.{length, getD, take, drop, set, drop-of-length-le, length-map, length-append, length-take, length-drop, List·getD-append}
+use lib.Seq.{drop-append-le, getD-take, getD-drop, ext-getD, getD-append-add}
 use lib.Arith.{digits-lt, digits-div, digits-mod}
 use lib.Dec.{ltb, eqb}
 use Rattle.rules.specs.Tests.{eqs, lt-yes, lt-no}
-use Rattle.rules.specs.Words.{Word}
-use Rattle.rules.specs.Seek.{seek, seek-same}
+use Rattle.rules.specs.Words.{Word, Below, below-append}
+use Rattle.rules.specs.Seek.{seek, seek-same, sought}
 use Rattle.rules.specs.Table.{from, row, cells, stateOf, openRow}
 use Rattle.rules.specs.Closing.{cells-get, cells-length}
 use Rattle.rules.specs.FromLaws.{map-from-length, map-from-at}
-use Rattle.rules.specs.Areas.{put, put-length, put-below, put-in, put-above, part-same, over}
+use Rattle.rules.specs.Areas.{put, put-inside, put-store, put-length, put-below, put-in, put-above}
+use Rattle.learning.specs.Store.{slot, stored, stored-at, stored-length, stored-more, Kept, kept-long}
 
 -- ---- the cells as they stand
 -- the first c cells of row r
@@ -29,6 +30,20 @@ rowCells W table c r = take c (drop (r * W) table)
 unfoldable pub stateIn : ℕ → List ℕ → List ℕ → ℕ → ℕ → ℕ → ℕ
 unfolding rowCells seek eqs
 stateIn W table rows m c r = seek (λ (j : ℕ). eqs (rowCells W table c (getD rows j 0)) (rowCells W table c r)) 0 m
+
+pub state-in-le : (W : ℕ) (table rows : List ℕ) (m c r : ℕ) → stateIn W table rows m c r ≤ m
+unfolding stateIn
+state-in-le W table rows m c r = let s = sought (λ (j : ℕ). eqs (rowCells W table c (getD rows j 0)) (rowCells W table c r)) 0 m in omega (arith, s .high)
+
+-- the first of the rows `first` up to `last` whose cells are those of no word of S; `last` where there is none
+unfoldable pub openIn : ℕ → List ℕ → List ℕ → ℕ → ℕ → ℕ → ℕ → ℕ
+unfolding stateIn seek
+openIn W table rows m c first last = seek (λ (r : ℕ). eqb (stateIn W table rows m c r) m) first (last - first)
+
+-- the conjecture's word of state i / k and letter i % k: where the row goes, and the cell of the one-letter column
+unfoldable pub guessIn : ℕ → List ℕ → List ℕ → ℕ → ℕ → ℕ → ℕ → ℕ
+unfolding stateIn
+guessIn W table rows m k c i = 256 * stateIn W table rows m c (1 + i) + getD table (getD rows (i / k) 0 * W + i % k) 0
 
 -- ---- what was filled: the cells of the rows `first` up to `last`, of the columns `from` up to `to`, and nothing else
 pub record Filled (W : ℕ) (f : ℕ → ℕ → ℕ) (first last low high : ℕ) (old new : List ℕ) : Type 0 where
@@ -91,6 +106,71 @@ module _ (W : ℕ) (f : ℕ → ℕ → ℕ) (first r low : ℕ) (new : List ℕ
           side (yes g) = before (q * W + c) (omega (arith, earlier W r q c g h))
           side (no g) = after (q * W + c) (omega (arith, mul-le-mul-right {m = r} {n = q} W (omega arith)))
 
+-- ---- a row of the area, filled column by column
+-- the cells of the columns `low` up to `high` of the row word w
+abbrev pub cellsFrom : (Word → ℕ) → List ℕ → ℕ → ℕ → Word → List ℕ
+cellsFrom ask columns low high w = cells ask (drop low (stored 94 columns high)) w
+
+pub cells-from-length : (ask : Word → ℕ) (columns : List ℕ) (low high : ℕ) (w : Word) → length (cellsFrom ask columns low high w) ≡ high - low
+cells-from-length ask columns low high w = cells-length ask (drop low (stored 94 columns high)) w ∙ simp (length-drop, stored-length 94 columns high)
+
+pub cells-from-none : (ask : Word → ℕ) (columns : List ℕ) (low : ℕ) (w : Word) → cellsFrom ask columns low low w ≡ []
+unfolding cells
+cells-from-none ask columns low w = ap (λ (E : List Word). cells ask E w) (drop-of-length-le (stored 94 columns low) {i = low} (omega (arith, stored-length 94 columns low)))
+
+-- one column more
+pub cells-from-more : (ask : Word → ℕ) (columns : List ℕ) (low c : ℕ) (w : Word) → low ≤ c → cellsFrom ask columns low (suc c) w ≡ cellsFrom ask columns low c w ++ (ask (w ++ slot 94 columns c) ∷ [])
+unfolding cells
+cells-from-more ask columns low c w h =
+    let n = stored-length 94 columns c in
+    ap (λ (E : List Word). cells ask (drop low E) w) (stored-more 94 columns c)
+    ∙ ap (λ (E : List Word). cells ask E w) (drop-append-le low (stored 94 columns c) (slot 94 columns c ∷ []) (omega arith))
+    ∙ map-append (λ (e : Word). ask (w ++ e)) (drop low (stored 94 columns c)) (slot 94 columns c ∷ [])
+
+-- the next cell is stored
+pub put-cell : (ask : Word → ℕ) (columns : List ℕ) (low c : ℕ) (w : Word) (v : ℕ) (row area : List ℕ) → low ≤ c → c < length area → v ≡ ask (w ++ slot 94 columns c)
+    → row ≡ put low (cellsFrom ask columns low c w) area → set row c v ≡ put low (cellsFrom ask columns low (c + 1) w) area
+put-cell ask columns low c w v row area h room is e =
+    let x = cellsFrom ask columns low c w in
+    let n : low + length x ≡ c = omega (arith, cells-from-length ask columns low c w) in
+    let one : suc c ≡ c + 1 = omega arith in
+    ap₂ (λ (l : List ℕ) (i : ℕ). set l i v) e (sym n)
+    ∙ put-store low x v area (omega arith)
+    ∙ ap (λ (l : List ℕ). put low l area) (ap (λ (y : ℕ). x ++ (y ∷ [])) is ∙ sym (cells-from-more ask columns low c w h) ∙ ap (λ (i : ℕ). cellsFrom ask columns low i w) one)
+
+-- a cell of them
+pub cells-from-at : (ask : Word → ℕ) (columns : List ℕ) (low high c : ℕ) (w : Word) → low + c < high → getD (cellsFrom ask columns low high w) c 0 ≡ ask (w ++ getD (stored 94 columns high) (low + c) [])
+cells-from-at ask columns low high c w h =
+    cells-get ask (drop low (stored 94 columns high)) w c (simp (length-drop, stored-length 94 columns high) (omega arith))
+    ∙ ap (λ (e : Word). ask (w ++ e)) (getD-drop low (stored 94 columns high) c [])
+
+-- ---- what the code's loop over rows asks for
+-- cell (row, column) of the words and columns kept
+abbrev pub cellOf : (Word → ℕ) → ℕ → List ℕ → ℕ → List ℕ → ℕ → ℕ → ℕ → ℕ
+cellOf ask k s m columns c row′ column = ask (row k (stored 48 s m) row′ ++ getD (stored 94 columns c) column [])
+
+module _ (ask : Word → ℕ) (k : ℕ) (s columns : List ℕ) (m first r low high : ℕ) (old table : List ℕ) where
+  -- a row's part is lent, and its cells are put
+  pub filled-row : (row′ : List ℕ) → first ≤ r → low ≤ high → high ≤ 59 → r * 59 + 59 ≤ length table
+      → row′ ≡ put low (cellsFrom ask columns low high (row k (stored 48 s m) r)) (take (r * 59 + 59 - r * 59) (drop (r * 59) table))
+      → Filled 59 (cellOf ask k s m columns high) first r low high old table
+      → Filled 59 (cellOf ask k s m columns high) first (r + 1) low high old (take (r * 59) table ++ (row′ ++ drop (r * 59 + 59 - r * 59) (drop (r * 59) table)))
+  filled-row row′ begun up narrow room is F =
+      let w = row k (stored 48 s m) r in
+      let x = cellsFrom ask columns low high w in
+      let size = cells-from-length ask columns low high w in
+      let n : r * 59 + 59 - r * 59 ≡ 59 = omega arith in
+      let e : low + length x ≡ high = omega arith in
+      let one : suc r ≡ r + 1 = omega arith in
+      let area : take (r * 59) table ++ (row′ ++ drop (r * 59 + 59 - r * 59) (drop (r * 59) table)) ≡ put (r * 59 + low) x table =
+      ap (λ (l : List ℕ). take (r * 59) table ++ (l ++ drop (r * 59 + 59 - r * 59) (drop (r * 59) table))) is
+      ∙ put-inside (r * 59) (r * 59 + 59 - r * 59) low x table (omega arith) (omega arith) in
+      subst (λ (l : List ℕ). Filled 59 (cellOf ask k s m columns high) first (r + 1) low high old l) (sym area)
+      (subst (λ (i : ℕ). Filled 59 (cellOf ask k s m columns high) first i low high old (put (r * 59 + low) x table)) one
+      (subst (λ (h : ℕ). Filled 59 (cellOf ask k s m columns high) first (suc r) low h old (put (r * 59 + low) x table)) e
+      (filled-more 59 (cellOf ask k s m columns high) first r low x old table begun (omega arith) room (λ c l. cells-from-at ask columns low high c w (omega arith))
+      (subst (λ (h : ℕ). Filled 59 (cellOf ask k s m columns high) first r low h old table) (sym e) F))))
+
 -- ---- what the area holds
 pub record Holds (W size : ℕ) (ask : Word → ℕ) (k : ℕ) (E S : List Word) (table : List ℕ) : Type 0 where
   pub cell : (r c : ℕ) → r < 1 + length S * k → c < length E → getD table (r * W + c) 0 ≡ ask (row k S r ++ getD E c [])
@@ -121,6 +201,45 @@ filled-beyond {W} {size} {first} {last} {low} {high} {f} {old} {new} pos room F 
         go : Dec (i / W < last) → last ≤ i / W
         go (yes l) = let b = div-lt-iff-lt-mul pos .0 l in absurd (omega arith)
         go (no l) = omega arith
+
+-- row r of words kept in slots
+pub row-kept : (width k : ℕ) (s : List ℕ) (m r : ℕ) → 0 < k → 0 < r → r < 1 + m * k → row k (stored width s m) r ≡ slot width s ((r - 1) / k) ++ ((r - 1) % k ∷ [])
+unfolding row
+row-kept width k s m zero pos h l = absurd (omega arith)
+row-kept width k s m (suc r) pos h l =
+    let p : suc r - 1 ≡ r = omega arith in
+    let j : r / k < m = div-lt-iff-lt-mul pos .1 (omega arith) in
+    rw (p, stored-at width s m (r / k) j)
+
+pub row-below : {width k : ℕ} {s : List ℕ} {m : ℕ} (r : ℕ) → Kept width k s m → 0 < k → r < 1 + m * k → Below k (row k (stored width s m) r)
+unfolding row
+row-below {width} {k} {s} {m} zero K pos h = tt
+row-below {width} {k} {s} {m} (suc r) K pos h =
+    let j : r / k < m = div-lt-iff-lt-mul pos .1 (omega arith) in
+    below-append k (getD (stored width s m) (r / k) []) (r % k ∷ []) (K .letters (r / k) (rw (stored-length width s m) j)) (mod-lt r pos, tt)
+
+pub row-long : {width k : ℕ} {s : List ℕ} {m : ℕ} (r : ℕ) → Kept width k s m → 0 < k → 0 < width → r < 1 + m * k → length (row k (stored width s m) r) ≤ width
+unfolding row
+row-long {width} {k} {s} {m} zero K pos some h = omega arith
+row-long {width} {k} {s} {m} (suc r) K pos some h =
+    let j : r / k < m = div-lt-iff-lt-mul pos .1 (omega arith) in
+    let l = kept-long K (r / k) j in
+    rw (stored-at width s m (r / k) j) (simp length-append (omega arith))
+
+-- a word of S is put, and the row's letter is stored after it
+pub row-put : (width k : ℕ) (s : List ℕ) (m r end : ℕ) (area word : List ℕ) → 0 < k → k ≤ 12 → 0 < r → r < 1 + m * k
+    → end ≡ 0 + length (slot width s ((r - 1) / k)) → area ≡ put 0 (slot width s ((r - 1) / k)) word → length (slot width s ((r - 1) / k)) < length word
+    → (end + 1 ≡ length (row k (stored width s m) r)) × (set area end ((r - 1) % k % 256) ≡ put 0 (row k (stored width s m) r) word)
+row-put width k s m r end area word pos few h l e a room =
+    let w = slot width s ((r - 1) / k) in
+    let is = row-kept width k s m r pos h l in
+    let low = mod-lt (r - 1) pos in
+    let v : (r - 1) % k % 256 ≡ (r - 1) % k = omega arith in (
+      omega (arith, ap length is ∙ length-append w ((r - 1) % k ∷ [])),
+      ap₂ (λ (x : List ℕ) (i : ℕ). set x i ((r - 1) % k % 256)) a e
+          ∙ put-store 0 w ((r - 1) % k % 256) word (omega arith)
+          ∙ ap (λ (x : Word). put 0 x word) (ap (λ (x : ℕ). w ++ (x ∷ [])) v ∙ sym is),
+    )
 
 -- rows of the words that stood there before
 pub row-stays : (k : ℕ) (S more : List Word) (r : ℕ) → 0 < k → r < 1 + length S * k → row k (S ++ more) r ≡ row k S r

@@ -1,6 +1,6 @@
 -- Words kept one after the other in a flat array: slot j has `width` places, first the word's length and then its letters. This is how
 -- the code keeps S (slots of 48), the columns (slots of 94) and the reaching words (slots of 48).
-use mathlib.Core.Path.{_≡_, sym, ap, ap₂, _∙_}
+use mathlib.Core.Path.{_≡_, sym, ap, ap₂, _∙_, subst}
 use mathlib.Core.Logic.{_⊎_, inl, inr}
 use mathlib.Core.List.{List, [], _∷_, _++_, map}
 use Prim.Native.Nat.{ℕ, suc, _+_, _*_, _≤_, _<_}
@@ -8,9 +8,10 @@ use native.Mathlib.Nat.{mul-le-mul-right, suc-mul, eq-or-lt-of-le, le-of-suc-le-
 use native.Mathlib.Omega.{arith}
 use lib.ListN.{length, getD, take, drop, length-drop}
 use lib.Seq.{drop-at, drop-drop, length-take-le, take-append-seam}
-use Rattle.rules.specs.Words.{Word}
+use Rattle.rules.specs.Words.{Word, Below}
 use Rattle.rules.specs.Areas.{put, put-length, put-below, put-in, part-same}
 use Rattle.rules.specs.Table.{from}
+use Rattle.rules.specs.Closing.{Words, all-snoc}
 use Rattle.rules.specs.FromLaws.{map-from-length, map-from-at, map-from-snoc, map-from-same}
 
 unfoldable pub slot : ℕ → List ℕ → ℕ → Word
@@ -97,3 +98,34 @@ module _ (width : ℕ) (store : List ℕ) (count : ℕ) (S : Slots width store c
       fits : (j : ℕ) → (j ≡ count) ⊎ (j < count) → getD (put (count * width) (length w ∷ w) store) (j * width) 0 < width
       fits j (inl e) = rw (e, head) short
       fits j (inr h) = let l = earlier j h in rw (stays (j * width) (omega (arith, S .fits j h))) (S .fits j h)
+
+-- words kept in slots, with letters below k
+pub record Kept (width k : ℕ) (store : List ℕ) (count : ℕ) : Type 0 where
+  pub slots : Slots width store count
+  pub letters : Words k (stored width store count)
+
+module _ {width k : ℕ} {store : List ℕ} {count : ℕ} (K : Kept width k store count) where
+  -- what a function asks that copies the word of slot j
+  pub kept-room : (j : ℕ) → j < count → j * width + width ≤ length store
+  kept-room j h = omega (arith, suc-mul j width, mul-le-mul-right width h, K .slots .room)
+
+  pub kept-long : (j : ℕ) → j < count → length (slot width store j) < width
+  kept-long j h = rw (slot-length width store j (kept-room j h) (K .slots .fits j h)) (K .slots .fits j h)
+
+  pub kept-letters : (j : ℕ) → j < count → Below k (slot width store j)
+  kept-letters j h = rw (stored-at width store count j h) at (K .letters j (rw (stored-length width store count) h))
+
+  -- the first of them are kept too
+  pub kept-fewer : (fewer : ℕ) → fewer ≤ count → Kept width k store fewer
+  kept-fewer fewer h = record {
+    slots = record { room = omega (arith, mul-le-mul-right {m = fewer} {n = count} width h, K .slots .room); fits = λ j l. K .slots .fits j (omega arith) };
+    letters = λ j l. let l′ : j < fewer = rw (stored-length width store fewer) at l in rw (stored-at width store fewer j l′) (kept-letters j (omega arith));
+  }
+
+  -- a word more
+  pub kept-more : (w : Word) → count * width + width ≤ length store → length w < width → Below k w → Kept width k (put (count * width) (length w ∷ w) store) (suc count)
+  kept-more w room short below = record {
+    slots = slots-put width store count (K .slots) w room short;
+    letters = subst (λ (S : List Word). Words k S) (sym (stored-put width store count (K .slots) w room short))
+        (all-snoc (λ i x. Below k x) [] (stored width store count) w (K .letters) below);
+  }

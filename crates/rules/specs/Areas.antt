@@ -4,7 +4,7 @@ use mathlib.Core.List.{List, [], _∷_, _++_, append-assoc, append-nil}
 use Prim.Native.Nat.{ℕ, suc, _+_, _-_, _≤_, _<_}
 use native.Mathlib.Omega.{arith}
 use lib.ListN.{length, getD, take, drop, set, replicate, length-append, length-take, length-drop, take-append-drop, List·getD-append, drop-of-length-le}
-use lib.Seq.{take-at, drop-at, drop-drop, set-split, drop-append-add, take-append-seam, getD-append-add, getD-take, getD-drop, length-take-le, ext-getD, take-all, take-length}
+use lib.Seq.{take-at, drop-at, drop-drop, set-split, take-append-le, drop-append-le, take-append-add, drop-append-add, take-append-seam, getD-append-add, getD-take, getD-drop, length-take-le, ext-getD, take-all, take-length}
 
 -- at the start of an area
 unfoldable pub over : List ℕ → List ℕ → List ℕ
@@ -102,6 +102,43 @@ put-part at new area h =
     let d : drop at (take at area ++ (new ++ drop (at + length new) area)) ≡ new ++ drop (at + length new) area =
     drop-at (take at area) (new ++ drop (at + length new) area) at (length-take-le at area (omega arith)) in
     ap (take (length new)) d ∙ take-append-seam new (drop (at + length new) area)
+
+-- the area up to what was put, and up to its end
+pub put-keeps : (at : ℕ) (new area : List ℕ) → at ≤ length area → take at (put at new area) ≡ take at area
+unfolding put
+put-keeps at new area h = take-at (take at area) (new ++ drop (at + length new) area) at (length-take-le at area h)
+
+pub put-front : (at : ℕ) (new area : List ℕ) → at + length new ≤ length area → take (at + length new) (put at new area) ≡ take at area ++ new
+unfolding put
+put-front at new area h =
+    ap (take (at + length new)) (sym (append-assoc (take at area) new (drop (at + length new) area)))
+    ∙ take-at (take at area ++ new) (drop (at + length new) area) (at + length new) (simp (length-append, length-take) (omega arith))
+
+-- ---- a part of an area, put anew
+put-left : (at : ℕ) (new x y : List ℕ) → at + length new ≤ length x → put at new (x ++ y) ≡ put at new x ++ y
+unfolding put
+put-left at new x y h =
+    ap₂ (λ (l m : List ℕ). l ++ (new ++ m)) (take-append-le at x y (omega arith)) (drop-append-le (at + length new) x y h)
+    ∙ ap (λ (l : List ℕ). take at x ++ l) (sym (append-assoc new (drop (at + length new) x) y))
+    ∙ sym (append-assoc (take at x) (new ++ drop (at + length new) x) y)
+
+put-right : (at : ℕ) (new x y : List ℕ) → put (length x + at) new (x ++ y) ≡ x ++ put at new y
+unfolding put
+put-right at new x y =
+    let n : length x + at + length new ≡ length x + (at + length new) = omega arith in
+    ap₂ (λ (l m : List ℕ). l ++ (new ++ m)) (take-append-add x y at) (ap (λ (i : ℕ). drop i (x ++ y)) n ∙ drop-append-add x y (at + length new))
+    ∙ append-assoc x (take at y) (new ++ drop (at + length new) y)
+
+-- what is put into a part that was lent from a place on is put into the area
+pub put-inside : (place width at : ℕ) (new area : List ℕ) → place + width ≤ length area → at + length new ≤ width
+    → take place area ++ (put at new (take width (drop place area)) ++ drop width (drop place area)) ≡ put (place + at) new area
+put-inside place width at new area room fits =
+    let rest : List ℕ = drop place area in
+    let size : length (take place area) ≡ place = length-take-le place area (omega arith) in
+    let part : length (take width rest) ≡ width = length-take-le width rest (simp length-drop (omega arith)) in
+    ap (λ (l : List ℕ). take place area ++ l) (sym (put-left at new (take width rest) (drop width rest) (omega arith)) ∙ ap (put at new) (take-append-drop width rest))
+    ∙ sym (put-right at new (take place area) rest)
+    ∙ ap₂ (λ (i : ℕ) (l : List ℕ). put (i + at) new l) size (take-append-drop place area)
 
 -- a copy to the start of the part from a place on is a put
 pub put-copied : (area w : List ℕ) (at : ℕ) → at + length w ≤ length area

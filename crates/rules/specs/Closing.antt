@@ -4,7 +4,7 @@ use mathlib.Core.Path.{_≡_, refl, sym, ap, ap₂, _∙_, subst}
 use mathlib.Core.Logic.{_⊎_, inl, inr, _≢_}
 use mathlib.Core.Bool.{Bool, true, false, true≢false}
 use mathlib.Core.List.{List, [], _∷_, _++_, append-nil, append-assoc, head-eq-of-cons-eq, tail-eq-of-cons-eq}
-use Prim.Native.Nat.{ℕ, zero, suc, _+_, _*_, _/_, _%_, _≤_, _<_}
+use Prim.Native.Nat.{ℕ, zero, suc, _+_, _*_, _-_, _/_, _%_, _≤_, _<_}
 use native.Mathlib.Nat.{not-suc-le-zero, le-of-suc-le-suc, mod-lt, div-lt-iff-lt-mul, eq-or-lt-of-le, mul-zero}
 use native.Mathlib.Omega.{arith}
 use lib.ListN.{length, getD, length-append, length-map, List·getD-append}
@@ -13,8 +13,8 @@ use lib.Arith.{digits-div, digits-mod, digits-lt}
 use lib.Dec.{eqb, ltb}
 use Rattle.rules.specs.Least.{split}
 use Rattle.rules.specs.Words.{Word, Below, below-append}
-use Rattle.rules.specs.Tests.{eqs, eqs-true, eqs-false, eqb-true, eqb-same, ltb-yes, ltb-no}
-use Rattle.rules.specs.Seek.{seek, Sought, sought}
+use Rattle.rules.specs.Tests.{eqs, eqs-true, eqs-false, eqb-true, eqb-false, eqb-same, is-false, ltb-yes, ltb-no, lt-yes, lt-no}
+use Rattle.rules.specs.Seek.{seek, Sought, sought, seek-is, seek-skip}
 use Rattle.rules.specs.Table.{row, cells, stateOf, openRow, close, Closes, shut, append, move}
 
 -- ---- statements
@@ -53,7 +53,7 @@ all-snoc P z l x f px i h = go (eq-or-lt-of-le (le-of-suc-le-suc (subst (λ (n :
 
 module _ (ask : Word → ℕ) where
   -- ---- the state of a row
-  state-le : (E S : List Word) (w : Word) → stateOf ask E S w ≤ length S
+  pub state-le : (E S : List Word) (w : Word) → stateOf ask E S w ≤ length S
   unfolding stateOf
   state-le E S w = let s = sought (λ (j : ℕ). eqs (cells ask E (getD S j [])) (cells ask E w)) 0 (length S) in omega (arith, s .high)
 
@@ -87,6 +87,17 @@ module _ (ask : Word → ℕ) where
       go : (stateOf ask E S (getD S j []) ≡ length S) ⊎ (stateOf ask E S (getD S j []) < length S) → stateOf ask E S (getD S j []) ≡ j
       go (inl e) = absurd (state-none E S (getD S j []) e j h refl)
       go (inr l) = told-place E S told (stateOf ask E S (getD S j [])) j l h (state-same E S (getD S j []) l)
+
+  -- a row that has its word in S keeps it when words are appended
+  pub state-stays : (E S more : List Word) (w : Word) → stateOf ask E S w < length S → stateOf ask E (S ++ more) w ≡ stateOf ask E S w
+  unfolding stateOf
+  state-stays E S more w h =
+      let p : ℕ → Bool = λ (j : ℕ). eqs (cells ask E (getD S j [])) (cells ask E w) in
+      let s = sought p 0 (length S) in
+      let n = length-append S more in
+      seek-is (λ (j : ℕ). eqs (cells ask E (getD (S ++ more) j [])) (cells ask E w)) 0 (length (S ++ more)) (stateOf ask E S w) (omega arith) (omega arith)
+      (ap (λ (x : Word). eqs (cells ask E x) (cells ask E w)) (List·getD-append S more [] (stateOf ask E S w) h) ∙ s .hit (omega arith))
+      (λ j l u. ap (λ (x : Word). eqs (cells ask E x) (cells ask E w)) (List·getD-append S more [] j (omega arith)) ∙ s .before j l u)
 
   -- ---- columns
   pub cells-ext : (E : List Word) (x y : Word) → ((c : ℕ) → c < length E → ask (x ++ getD E c []) ≡ ask (y ++ getD E c [])) → cells ask E x ≡ cells ask E y
@@ -145,7 +156,7 @@ module _ (ask : Word → ℕ) where
           let g : eqb (length S) (length S) ≡ false = subst (λ (n : ℕ). eqb n (length S) ≡ false) (ap (stateOf ask E S) (row-at k S j a ha) ∙ e) f in
           absurd (true≢false (sym (eqb-same (length S)) ∙ g))
 
-  open-le : (k : ℕ) (E S : List Word) → openRow ask k E S ≤ 1 + length S * k
+  pub open-le : (k : ℕ) (E S : List Word) → openRow ask k E S ≤ 1 + length S * k
   unfolding openRow
   open-le k E S = sought (λ (r : ℕ). eqb (stateOf ask E S (row k S r)) (length S)) 1 (length S * k) .high
 
@@ -172,6 +183,39 @@ module _ (ask : Word → ℕ) where
           let pos = pos-of k r lt in
           record { j = r / k; a = r % k; j-low = div-lt-iff-lt-mul pos .1 lt; a-low = mod-lt r pos; is = refl }
 
+  -- the rows before the open one have their words in S
+  open-before : (k : ℕ) (E S : List Word) (r : ℕ) → 1 ≤ r → r < openRow ask k E S → stateOf ask E S (row k S r) < length S
+  unfolding openRow
+  open-before k E S r low h =
+      let s = sought (λ (r : ℕ). eqb (stateOf ask E S (row k S r)) (length S)) 1 (length S * k) in
+      let f = eqb-false (stateOf ask E S (row k S r)) (length S) (s .before r low h) in
+      let l = state-le E S (row k S r) in
+      omega arith
+
+  -- so once its word is appended the search may go on from there
+  pub open-on : (k : ℕ) (E S : List Word) (w : Word) → 0 < k → openRow ask k E S < 1 + length S * k
+      → openRow ask k E (S ++ (w ∷ [])) ≡ seek (λ (r : ℕ). eqb (stateOf ask E (S ++ (w ∷ [])) (row k (S ++ (w ∷ [])) r)) (length (S ++ (w ∷ [])))) (openRow ask k E S) (1 + length (S ++ (w ∷ [])) * k - openRow ask k E S)
+  unfolding openRow row
+  open-on k E S w pos h =
+      let s = sought (λ (r : ℕ). eqb (stateOf ask E S (row k S r)) (length S)) 1 (length S * k) in
+      let n = length-append S (w ∷ []) in
+      let m = ap (λ (i : ℕ). i * k) n in
+      seek-skip (λ (r : ℕ). eqb (stateOf ask E (S ++ (w ∷ [])) (row k (S ++ (w ∷ [])) r)) (length (S ++ (w ∷ [])))) 1 (length (S ++ (w ∷ [])) * k) (openRow ask k E S) (s .low) (omega arith)
+      (λ r l u. passed r l u)
+    where
+      passed : (r : ℕ) → 1 ≤ r → r < openRow ask k E S → eqb (stateOf ask E (S ++ (w ∷ [])) (row k (S ++ (w ∷ [])) r)) (length (S ++ (w ∷ []))) ≡ false
+      passed zero l u = absurd (not-suc-le-zero l)
+      passed (suc r) l u =
+          let j : r / k < length S = div-lt-iff-lt-mul pos .1 (omega arith) in
+          let low = open-before k E S (suc r) l u in
+          let is : stateOf ask E (S ++ (w ∷ [])) (row k (S ++ (w ∷ [])) (suc r)) ≡ stateOf ask E S (row k S (suc r)) =
+          ap (λ (x : Word). stateOf ask E (S ++ (w ∷ [])) (x ++ (r % k ∷ []))) (List·getD-append S (w ∷ []) [] (r / k) j) ∙ state-stays E S (w ∷ []) (row k S (suc r)) low in
+          let n = length-append S (w ∷ []) in
+          is-false (stateOf ask E (S ++ (w ∷ [])) (row k (S ++ (w ∷ [])) (suc r))) (length (S ++ (w ∷ []))) (λ e. absurd (clash (sym is ∙ e) low n))
+        where
+          clash : stateOf ask E S (row k S (suc r)) ≡ length (S ++ (w ∷ [])) → stateOf ask E S (row k S (suc r)) < length S → length (S ++ (w ∷ [])) ≡ length S + 1 → ⊥
+          clash e low n = omega arith
+
   told-snoc : (E S : List Word) (w : Word) → Told ask E S → ((j : ℕ) → j < length S → cells ask E (getD S j []) ≢ cells ask E w) → Told ask E (S ++ (w ∷ []))
   told-snoc E S w told new i j h hj = go (eq-or-lt-of-le (le-of-suc-le-suc (subst (λ (n : ℕ). j < n) len hj)))
     where
@@ -196,8 +240,21 @@ module _ (ask : Word → ℕ) where
       go false e ih = rw (e, close) p
       go true e ih = rw (e, close) (ih (S ++ (row k S (openRow ask k E S) ∷ [])) (step S (ltb-yes (openRow ask k E S) (1 + length S * k) e) p))
 
+  -- one word appended, as the code goes
+  pub closing-step : (k room : ℕ) (E S : List Word) → openRow ask k E S < 1 + length S * k → close ask k (suc room) E S ≡ close ask k room E (S ++ (row k S (openRow ask k E S) ∷ []))
+  unfolding close
+  closing-step k room E S h = let e = lt-yes (openRow ask k E S) (1 + length S * k) h in rw (e, close)
+
+  pub closing-stop : (k room : ℕ) (E S : List Word) → openRow ask k E S ≡ 1 + length S * k → close ask k room E S ≡ S
+  unfolding close
+  closing-stop k zero E S h = refl
+  closing-stop k (suc room) E S h = let e = lt-no (openRow ask k E S) (1 + length S * k) (omega arith) in rw (e, close)
+
+  pub open-told : (k : ℕ) (E S : List Word) → Told ask E S → openRow ask k E S < 1 + length S * k → Told ask E (S ++ (row k S (openRow ask k E S) ∷ []))
+  open-told k E S told l = told-snoc E S (row k S (openRow ask k E S)) told (state-none E S (row k S (openRow ask k E S)) (open-hit k E S l))
+
   pub closing-told : (k room : ℕ) (E S : List Word) → Told ask E S → Told ask E (close ask k room E S)
-  closing-told k room E S = closing-keeps (Told ask E) k room E S (λ S l told. told-snoc E S (row k S (openRow ask k E S)) told (state-none E S (row k S (openRow ask k E S)) (open-hit k E S l)))
+  closing-told k room E S = closing-keeps (Told ask E) k room E S (λ S l told. open-told k E S told l)
 
   pub closing-words : (k room : ℕ) (E S : List Word) → Words k S → Words k (close ask k room E S)
   closing-words k room E S = closing-keeps (Words k) k room E S (λ S l ws. all-snoc (λ i w. Below k w) [] S (row k S (openRow ask k E S)) ws (new S l ws))

@@ -1,10 +1,11 @@
 -- The numbers i, i + 1, .. and lists made of them.
-use mathlib.Core.Path.{_≡_, refl, ap, _∙_}
+use mathlib.Core.Path.{_≡_, refl, sym, ap, ap₂, _∙_}
 use mathlib.Core.List.{List, [], _∷_, _++_, map, map-append}
 use Prim.Native.Nat.{ℕ, zero, suc, _+_, _<_}
 use native.Mathlib.Nat.{not-suc-le-zero, le-of-suc-le-suc}
 use native.Mathlib.Omega.{arith}
-use lib.ListN.{length, getD, length-map}
+use lib.ListN.{length, getD, set, length-map}
+use Rattle.rules.specs.Areas.{put, put-none, put-store}
 use Rattle.rules.specs.Table.{from}
 
 pub from-length : (i n : ℕ) → length (from i n) ≡ n
@@ -36,6 +37,19 @@ module _ {A : Type 0} (f : ℕ → A) where
   map-from-snoc n =
       let z : 0 + n ≡ n = omega arith in
       ap (map f) (from-snoc 0 n) ∙ map-append f (from 0 n) ((0 + n) ∷ []) ∙ ap (λ (j : ℕ). map f (from 0 n) ++ (f j ∷ [])) z
+
+-- a list that is put into an area element by element
+pub put-from-none : (f : ℕ → ℕ) (area : List ℕ) → area ≡ put 0 (map f (from 0 0)) area
+unfolding from
+put-from-none f area = sym (put-none 0 area)
+
+pub put-from-more : (f : ℕ → ℕ) (i v : ℕ) (now area : List ℕ) → i < length area → now ≡ put 0 (map f (from 0 i)) area → v ≡ f i → set now i v ≡ put 0 (map f (from 0 (i + 1))) area
+put-from-more f i v now area h e is =
+    let n : 0 + length (map f (from 0 i)) ≡ i = omega (arith, map-from-length f 0 i) in
+    let one : suc i ≡ i + 1 = omega arith in
+    ap₂ (λ (l : List ℕ) (j : ℕ). set l j v) e (sym n)
+    ∙ put-store 0 (map f (from 0 i)) v area (omega arith)
+    ∙ ap (λ (l : List ℕ). put 0 l area) (ap (λ (x : ℕ). map f (from 0 i) ++ (x ∷ [])) is ∙ sym (map-from-snoc f i) ∙ ap (λ (j : ℕ). map f (from 0 j)) one)
 
 -- lists that agree at each number are equal
 pub map-from-same : {A : Type 0} (f g : ℕ → A) (i n : ℕ) → ((j : ℕ) → j < i + n → f j ≡ g j) → map f (from i n) ≡ map g (from i n)

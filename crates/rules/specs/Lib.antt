@@ -24,3 +24,9 @@ pub mod DifferenceLaws
 pub mod Links
 pub mod ByHand
 pub mod SheetLaws
+pub mod Alone
+pub mod Same
+pub mod Smallest
+pub mod Advance
+pub mod StateMap
+pub mod ProofLength

@@ -1,5 +1,5 @@
 -- One search for all places: the first of i, i + 1, .. (n of them) that passes a test, i + n where none does.
-use mathlib.Core.Path.{_≡_, refl, sym, _∙_}
+use mathlib.Core.Path.{_≡_, refl, sym, ap, _∙_}
 use mathlib.Core.Logic.{_⊎_, inl, inr}
 use mathlib.Core.Bool.{Bool, true, false, true≢false}
 use Prim.Native.Nat.{ℕ, zero, suc, _+_, _-_, _≤_, _<_}
@@ -62,6 +62,20 @@ seek-none p i n none = go (sought p i n) (eq-or-lt-of-le (sought p i n .high))
     go : Sought p i n (seek p i n) → (seek p i n ≡ i + n) ⊎ (seek p i n < i + n) → seek p i n ≡ i + n
     go s (inl e) = e
     go s (inr l) = absurd (true≢false (sym (s .hit l) ∙ none (seek p i n) (s .low) l))
+
+-- places that are known to fail may be passed over
+pub seek-skip : (p : ℕ → Bool) (i n r : ℕ) → i ≤ r → r ≤ i + n → ((j : ℕ) → i ≤ j → j < r → p j ≡ false) → seek p i n ≡ seek p r (i + n - r)
+unfolding seek
+seek-skip p i zero r low high none = let e : i ≡ r = omega arith in let z : i + 0 - r ≡ 0 = omega arith in rw z e
+seek-skip p i (suc n) r low high none = go (eq-or-lt-of-le low) (seek-skip p (suc i) n r)
+  where
+    go : (i ≡ r) ⊎ (i < r) → (suc i ≤ r → r ≤ suc i + n → ((j : ℕ) → suc i ≤ j → j < r → p j ≡ false) → seek p (suc i) n ≡ seek p r (suc i + n - r))
+        → seek p i (suc n) ≡ seek p r (i + suc n - r)
+    go (inl e) ih = let z : i + suc n - r ≡ suc n = omega arith in rw z (ap (λ (x : ℕ). seek p x (suc n)) e)
+    go (inr l) ih =
+        let z : suc i + n - r ≡ i + suc n - r = omega arith in
+        let f = none i (omega arith) l in
+        rw (f, seek) (ih l (omega arith) (λ j a b. none j (omega arith) b) ∙ ap (seek p r) z)
 
 -- tests that agree find the same
 pub seek-same : (p q : ℕ → Bool) (i n : ℕ) → ((j : ℕ) → i ≤ j → j < i + n → p j ≡ q j) → seek p i n ≡ seek q i n

@@ -103,6 +103,15 @@ eqs-same (x ∷ xs) = rw (eqb-same x) (eqs-same xs)
 pub eqs-false : (xs ys : List ℕ) → eqs xs ys ≡ false → xs ≢ ys
 eqs-false xs ys e q = true≢false (sym (eqs-same xs) ∙ subst (λ (z : List ℕ). eqs xs z ≡ false) (sym q) e)
 
+-- whatever tells equal lists is this test
+pub eqs-is : (b : Bool) (xs ys : List ℕ) → (b ≡ true → xs ≡ ys) → (xs ≡ ys → b ≡ true) → b ≡ eqs xs ys
+eqs-is true xs ys f g = sym (rw (f refl) (eqs-same ys))
+eqs-is false xs ys f g = go (outcome (eqs xs ys))
+  where
+    go : (eqs xs ys ≡ true) ⊎ (eqs xs ys ≡ false) → false ≡ eqs xs ys
+    go (inl e) = absurd (true≢false (sym (g (eqs-true xs ys e))))
+    go (inr e) = sym e
+
 -- ---- all of i, i + 1, .. (n of them) pass
 unfoldable pub allFrom : (ℕ → Bool) → ℕ → ℕ → Bool
 allFrom p i zero = true

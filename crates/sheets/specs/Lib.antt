@@ -16,3 +16,7 @@ pub mod ProofLaws
 pub mod Checker
 pub mod Cases
 pub mod ProofCases
+pub mod Seen
+pub mod CheckerLaws
+pub mod SmallestSheets
+pub mod Demand3

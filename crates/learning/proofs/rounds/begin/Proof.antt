@@ -1,0 +1,117 @@
+use mathlib.Core.Path.{subst, ap₂}
+use mathlib.Core.List.{List, [], _∷_}
+use Rattle.rules.specs.Areas.{put}
+use Rattle.rules.specs.Words.{Word}
+use Rattle.rules.specs.Machine.{lent, ask}
+use Rattle.rules.specs.Table as rules
+use Rattle.rules.specs.Closing.{Told, Columns}
+use Rattle.rules.specs.Links.{one-letter-long}
+use Rattle.machine.specs.Lent.{link}
+use Rattle.learning.specs.Store.{Kept}
+use Rattle.learning.specs.Desk.{Desk, wordsIn, columnsIn}
+use Rattle.learning.specs.Grid.{beyond-then}
+use Rattle.learning.specs.Start.{Ones, first-kept, told-one, start-desk, start-words, start-beyond}
+use native.Mathlib.Omega.{arith}
+use mathlib.Core.Path.{_≡_, refl, sym, ap, _∙_}
+use Prim.Native.Nat.{ℕ, _+_, _*_, _-_, _/_, _%_, _<_, _≤_}
+use lib.ListN.{length, getD, take, drop, set}
+use borrow.Author.Needs.{needs}
+use Rattle.learning.proofs.rounds.begin.Statement.{statement}
+use Rattle.learning.proofs.rounds.begin.Tie as tie
+use Rattle.learning.proofs.rounds.begin.Reads as reads
+use Rattle.learning.proofs.rounds.begin.Lts as lts
+use Rattle.learning.proofs.closing.close.Reads as close-reads
+use Rattle.learning.proofs.rounds.one_letter.Reads as one-letter-reads
+use Rattle.learning.proofs.store.store_word.Reads as store-word-reads
+use Rattle.learning.proofs.table.fill_rows.Reads as fill-rows-reads
+
+-- the first table is filled
+desk : (c : tie.After-fill-rows) → let a = c .before .before .before .before .before .before .before .before .before .before .before .before .before .before .before .before .before .before .before .args in Desk (a .n) (a .k) (a .words .now) (c .before .before .before .before .before .before .before .store-word .last .0) (set (a .rows .now) 0 0) 1 (c .before .before .before .before .before .before .before .before .before .before .before .before .one-letter .last .0) (a .k) (c .fill-rows .last .0)
+desk c =
+    let a = c .before .before .before .before .before .before .before .before .before .before .before .before .before .before .before .before .before .before .before .args in
+    let p = c .before .before .before .before .before .before .before .before .before .before .before .before .before .before .before .before .before .before .before .pre in
+    start-desk (a .n) (a .k) (a .words .now) (a .s .now) (a .rows .now) (c .before .before .before .before .before .before .before .before .before .before .before .before .one-letter .last .0) (a .table .now) (p .0) (c .before .before .before .before .before .before .before .before .before .before .before .before .one-letter .ensures) (p .1 .0 .0) (p .1 .0 .1) (p .1 .0 .3) (p .1 .1) (c .before .before .before .before .before .before .before .store-word .last .0) (c .before .before .before .before .before .before .before .store-word .ensures) (c .fill-rows .last .0) (c .fill-rows .ensures)
+
+words : (c : tie.After-fill-rows) → wordsIn (c .before .before .before .before .before .before .before .store-word .last .0) 1 ≡ [] ∷ []
+words c =
+    let a = c .before .before .before .before .before .before .before .before .before .before .before .before .before .before .before .before .before .before .before .args in
+    let p = c .before .before .before .before .before .before .before .before .before .before .before .before .before .before .before .before .before .before .before .pre in
+    start-words (a .n) (a .k) (a .words .now) (a .s .now) (a .rows .now) (c .before .before .before .before .before .before .before .before .before .before .before .before .one-letter .last .0) (a .table .now) (p .0) (c .before .before .before .before .before .before .before .before .before .before .before .before .one-letter .ensures) (p .1 .0 .0) (p .1 .0 .1) (p .1 .0 .3) (p .1 .1) (c .before .before .before .before .before .before .before .store-word .last .0) (c .before .before .before .before .before .before .before .store-word .ensures) (c .fill-rows .last .0) (c .fill-rows .ensures)
+
+one-letter-requires : tie.Need-one-letter-requires
+one-letter-requires c κs = search needs
+
+slice-aggregate-store-word : tie.Need-slice-aggregate-store-word
+slice-aggregate-store-word c = search needs
+
+store-word-requires : tie.Need-store-word-requires
+store-word-requires c κs = search needs
+
+element-write-rows : tie.Need-element-write-rows
+element-write-rows c = search needs
+
+add-fill-rows : tie.Need-add-fill-rows
+add-fill-rows c = search needs
+
+fill-rows-requires : tie.Need-fill-rows-requires
+fill-rows-requires c κs = let p = c .before .before .before .before .before .before .before .before .before .before .before .before .before .before .before .before .before .before .pre in
+    let few = p .0 .k-high in (
+      (p .0, subst (λ (l : List ℕ). Kept 48 (c .before .before .before .before .before .before .before .before .before .before .before .before .before .before .before .before .before .before .args .k) l 1) (sym (c .before .before .before .before .before .before .store-word .ensures)) (first-kept (c .before .before .before .before .before .before .before .before .before .before .before .before .before .before .before .before .before .before .args .k) (c .before .before .before .before .before .before .before .before .before .before .before .before .before .before .before .before .before .before .args .s .now) (p .1 .0 .0)), c .before .before .before .before .before .before .before .before .before .before .before .one-letter .ensures .kept),
+      (omega arith, omega arith, omega (arith, p .1 .0 .3), omega arith, omega arith, p .1 .0 .4),
+    )
+
+close-requires : tie.Need-close-requires
+close-requires c κs = let a = c .before .before .before .before .before .before .before .before .before .before .before .before .before .before .before .before .before .before .before .before .before .before .before .before .before .before .before .before .args in
+    let p = c .before .before .before .before .before .before .before .before .before .before .before .before .before .before .before .before .before .before .before .before .before .before .before .before .before .before .before .before .pre in
+    let O = c .before .before .before .before .before .before .before .before .before .before .before .before .before .before .before .before .before .before .before .before .before .one-letter .ensures in
+    let q = ask (link (a .n) (a .k) (a .words .now)) in (
+      desk (c .before .before .before .before .before .before .before .before .before),
+      (
+        subst (λ (X : List Word). Told q (columnsIn (c .before .before .before .before .before .before .before .before .before .before .before .before .before .before .before .before .before .before .before .before .before .one-letter .last .0) (a .k)) X) (sym (words (c .before .before .before .before .before .before .before .before .before))) (told-one q (columnsIn (c .before .before .before .before .before .before .before .before .before .before .before .before .before .before .before .before .before .before .before .before .before .one-letter .last .0) (a .k))),
+        (subst (λ (X : List Word). Columns 1 X) (sym (O .are)) (one-letter-long (a .k)), omega (arith, c .before .before .before .before .before .before .before .before .before .fill-rows .kept .1 .1 .1 .1 .1 .1 .1 .0, p .1 .0 .4)),
+      ),
+    )
+
+same-length : tie.Need-same-length
+same-length c = search needs
+
+same-length-2 : tie.Need-same-length-2
+same-length-2 c = search needs
+
+same-length-3 : tie.Need-same-length-3
+same-length-3 c = search needs
+
+same-length-4 : tie.Need-same-length-4
+same-length-4 c = search needs
+
+returns : tie.Need-returns
+returns c = let a = c .before .before .before .before .before .before .before .before .before .before .before .before .before .before .before .before .before .before .before .before .before .before .before .before .before .before .before .before .before .before .before .before .before .before .before .args in
+    let p = c .before .before .before .before .before .before .before .before .before .before .before .before .before .before .before .before .before .before .before .before .before .before .before .before .before .before .before .before .before .before .before .before .before .before .before .pre in
+    let O = c .before .before .before .before .before .before .before .before .before .before .before .before .before .before .before .before .before .before .before .before .before .before .before .before .before .before .before .before .one-letter .ensures in
+    let x = c .before .before .before .before .before .before .close .ensures in (
+      x .0,
+      (
+        O .are,
+        (
+          x .1 .0 ∙ ap₂ (rules.close (ask (link (a .n) (a .k) (a .words .now))) (a .k) (a .n)) (O .are) (words (c .before .before .before .before .before .before .before .before .before .before .before .before .before .before .before .before)),
+          beyond-then (start-beyond (a .n) (a .k) (a .words .now) (a .s .now) (a .rows .now) (c .before .before .before .before .before .before .before .before .before .before .before .before .before .before .before .before .before .before .before .before .before .before .before .before .before .before .before .before .one-letter .last .0) (a .table .now) (p .0) O (p .1 .0 .0) (p .1 .0 .1) (p .1 .0 .3) (p .1 .1) (c .before .before .before .before .before .before .before .before .before .before .before .before .before .before .before .before .before .before .before .before .before .before .before .store-word .last .0) (c .before .before .before .before .before .before .before .before .before .before .before .before .before .before .before .before .before .before .before .before .before .before .before .store-word .ensures) (c .before .before .before .before .before .before .before .before .before .before .before .before .before .before .before .before .fill-rows .last .0) (c .before .before .before .before .before .before .before .before .before .before .before .before .before .before .before .before .fill-rows .ensures)) (x .1 .1),
+        ),
+      ),
+    )
+
+pub begin-spec : {M : Type 1} → statement M
+begin-spec =
+    tie.close
+    (tie.spec
+    one-letter-requires
+    slice-aggregate-store-word
+    store-word-requires
+    element-write-rows
+    add-fill-rows
+    fill-rows-requires
+    close-requires
+    same-length
+    same-length-2
+    same-length-3
+    same-length-4
+    returns)

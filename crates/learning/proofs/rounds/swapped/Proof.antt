@@ -1,0 +1,88 @@
+use mathlib.Core.List.{List, _++_}
+use lib.ListN.{length-take, length-drop}
+use lib.Seq.{length-take-le}
+use Rattle.rules.specs.Areas.{put, put-length}
+use Rattle.rules.specs.Words.{Word, Below, below-append, below-drop}
+use Rattle.rules.specs.Machine.{lent, ask}
+use Rattle.machine.specs.Lent.{link}
+use Rattle.machine.specs.LentLaws.{below-letters}
+use Rattle.learning.specs.Store.{slot, Kept, kept-room, kept-long, kept-letters}
+use Rattle.learning.specs.Cut.{joined}
+use native.Mathlib.Omega.{arith}
+use mathlib.Core.Path.{_≡_, refl, sym, ap, _∙_}
+use Prim.Native.Nat.{ℕ, _+_, _*_, _-_, _/_, _%_, _<_, _≤_}
+use lib.ListN.{length, getD, take, drop, set}
+use borrow.Author.Needs.{needs}
+use Rattle.learning.proofs.rounds.swapped.Statement.{statement}
+use Rattle.learning.proofs.rounds.swapped.Tie as tie
+use Rattle.learning.proofs.rounds.swapped.Reads as reads
+use Rattle.learning.proofs.rounds.swapped.Lts as lts
+use Rattle.learning.proofs.store.copy_word.Reads as copy-word-reads
+use Rattle.learning.proofs.store.put_letters.Reads as put-letters-reads
+use Rattle.machine.proofs.last_output.Reads as last-output-reads
+
+-- the word of S and the kept letters stand at the start of the buffer
+whole : (c : tie.After-put-letters) → let a = c .before .before .before .before .before .before .before .before .before .before .before .args in let at = c .before .before .before .before .before .copy-word .result in (at + (length (a .w .now) - a .i) ≤ length (c .put-letters .last .0)) × (take (at + (length (a .w .now) - a .i)) (c .put-letters .last .0) ≡ slot 48 (a .s .now) (a .state) ++ drop (a .i) (a .w .now))
+whole c =
+    let a = c .before .before .before .before .before .before .before .before .before .before .before .args in
+    let short = kept-long (c .before .before .before .before .before .before .before .before .before .before .before .pre .0 .1) _ (c .before .before .before .before .before .before .before .before .before .before .before .pre .1 .0) in
+    joined (slot 48 (a .s .now) (a .state)) (a .w .now) (a .i) (a .word .now) (c .before .before .before .before .before .copy-word .last .1 .1 .1 .0) (c .put-letters .last .0) (c .before .before .before .before .before .copy-word .result)
+    (c .before .before .before .before .before .before .before .before .before .before .before .pre .1 .1) (omega (arith, c .before .before .before .before .before .before .before .before .before .before .before .pre .1 .2, c .before .before .before .before .before .before .before .before .before .before .before .pre .1 .3)) (c .before .before .before .before .before .copy-word .ensures .0) (c .before .before .before .before .before .copy-word .ensures .1) (c .put-letters .ensures)
+
+copy-word-requires : tie.Need-copy-word-requires
+copy-word-requires c κs = let K = c .before .before .before .before .before .pre .0 .1 in let l = c .before .before .before .before .before .pre .1 .0 in (kept-room K _ l, (K .slots .fits _ l, omega (arith, c .before .before .before .before .before .pre .1 .3)))
+
+sub-put-letters : tie.Need-sub-put-letters
+sub-put-letters c = search needs
+
+part-put-letters-start : tie.Need-part-put-letters-start
+part-put-letters-start c = search needs
+
+part-put-letters-end : tie.Need-part-put-letters-end
+part-put-letters-end c = search needs
+
+put-letters-requires : tie.Need-put-letters-requires
+put-letters-requires c κs = let a = c .before .before .before .before .before .before .before .before .before .before .args in
+    let u = slot 48 (a .s .now) (a .state) in
+    let short = kept-long (c .before .before .before .before .before .before .before .before .before .before .pre .0 .1) _ (c .before .before .before .before .before .before .before .before .before .before .pre .1 .0) in
+    simp (length-take, length-drop) (omega (arith, c .before .before .before .before .copy-word .ensures .0, ap length (c .before .before .before .before .copy-word .ensures .1) ∙ put-length 0 u (a .word .now) (omega (arith, c .before .before .before .before .before .before .before .before .before .before .pre .1 .3)), c .before .before .before .before .before .before .before .before .before .before .pre .1 .2, c .before .before .before .before .before .before .before .before .before .before .pre .1 .3))
+
+sub-end : tie.Need-sub-end
+sub-end c = search needs
+
+add-end : tie.Need-add-end
+add-end c = omega (arith, whole (c .before .before) .0)
+
+slice-reshare-prefix-last-output : tie.Need-slice-reshare-prefix-last-output
+slice-reshare-prefix-last-output c = whole (c .before .before) .0
+
+slice-aggregate-last-output : tie.Need-slice-aggregate-last-output
+slice-aggregate-last-output c = sym (length-take-le _ _ (whole (c .before .before .before) .0))
+
+last-output-requires : tie.Need-last-output-requires
+last-output-requires c κs = let a = c .before .before .before .before .before .before .before .before .before .before .before .before .before .before .args in
+    let u = slot 48 (a .s .now) (a .state) in
+    (c .before .before .before .before .before .before .before .before .before .before .before .before .before .before .pre .0 .0, rw (whole (c .before .before .before) .1) (below-letters (a .k) (u ++ drop (a .i) (a .w .now)) (below-append (a .k) u (drop (a .i) (a .w .now)) (kept-letters (c .before .before .before .before .before .before .before .before .before .before .before .before .before .before .pre .0 .1) _ (c .before .before .before .before .before .before .before .before .before .before .before .before .before .before .pre .1 .0)) (below-drop (a .k) (a .i) (a .w .now) (c .before .before .before .before .before .before .before .before .before .before .before .before .before .before .pre .1 .4)))))
+
+same-length : tie.Need-same-length
+same-length c = search needs
+
+returns : tie.Need-returns
+returns c = let a = c .before .before .before .before .before .before .before .before .before .before .before .before .before .before .before .args in c .last-output .ensures ∙ ap (ask (link (a .n) (a .k) (a .words .now))) (whole (c .before .before .before .before) .1)
+
+pub swapped-spec : {M : Type 1} → statement M
+swapped-spec =
+    tie.close
+    (tie.spec
+    copy-word-requires
+    sub-put-letters
+    part-put-letters-start
+    part-put-letters-end
+    put-letters-requires
+    sub-end
+    add-end
+    slice-reshare-prefix-last-output
+    slice-aggregate-last-output
+    last-output-requires
+    same-length
+    returns)
