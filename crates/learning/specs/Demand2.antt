@@ -4,26 +4,24 @@
 use mathlib.Core.Path.{_≡_, refl, sym, ap, _∙_, subst}
 use mathlib.Core.Logic.{_⊎_, inl, inr, _≢_, _↔_}
 use mathlib.Core.Option.{Option, none, some}
-use mathlib.Core.List.{List, [], _∷_, _++_}
+use mathlib.Core.List.{List}
 use Prim.Native.Nat.{ℕ, _+_, _*_, _-_, _≤_, _<_}
 use native.Mathlib.Nat.{mul-le-mul, mul-le-mul-right}
 use native.Mathlib.Omega.{arith}
-use lib.ListN.{length, getD, length-append}
-use Rattle.rules.specs.Words.{Word, Below, LeastWord}
+use lib.ListN.{length, getD}
+use Rattle.rules.specs.Words.{Word, Below}
 use Rattle.rules.specs.Search.{walk}
-use Rattle.rules.specs.Machine.{Machine, Complete, lent, answer, ask, Equal, SmallestModel, ByLeastWords}
-use Rattle.rules.specs.MachineLaws.{ask-snoc}
+use Rattle.rules.specs.Machine.{Machine, Complete, lent, Equal, SmallestModel, ByLeastWords}
 use Rattle.rules.specs.Table.{conjecture}
 use Rattle.rules.specs.Rounds.{Stop, cellCount}
 use Rattle.rules.specs.Links.{counterexample, stopped, at-stop, conjecture-complete, rounds-enough, words-few}
-use Rattle.rules.specs.DifferenceLaws.{Apart, found, found-least, found-last}
+use Rattle.rules.specs.Differs.{Differs, difference-differs}
 use Rattle.rules.specs.Sheets.{proofBytes, wordBytes, CX}
 use Rattle.rules.specs.Areas.{over, zeros}
-use Rattle.rules.specs.Answer.{refused, gives}
+use Rattle.rules.specs.Answer.{Answer, refused, gives}
 use Rattle.machine.specs.Lent.{link}
 use Rattle.machine.specs.LentLaws.{lent-sound}
-use Rattle.learning.specs.Learner.{Counts, done, unfinished, Left, tableSize, tableBytes, learnCheck, counts, learn}
-use Rattle.learning.specs.Outcomes as outcomes
+use Rattle.learning.specs.Learner.{Counts, done, unfinished, Left, tableSize, tableBytes, learnCheck, counts, learnLeaves, learn}
 use Rattle.learning.specs.Outcomes.{taken, Outcome, over-limit, is-done, is-open, AtDone, AtOpen, at-ten, ten-at, at-done, at-open, ended}
 use Rattle.learning.specs.Proper.{Proper, sound-proper}
 use Rattle.learning.specs.Bounds.{stop-bounds}
@@ -40,16 +38,6 @@ pub record Figures (n k : ℕ) (x : Stop) (c : Counts) : Type 0 where
   pub few : c .states ≤ n
   pub most : c .cells ≤ (1 + n * k) * (k + n - 1)
 
--- w is the least word that M and N answer differently, and only its last outputs differ
-pub record Differs (k : ℕ) (M N : Machine) (w : Word) : Type 0 where
-  pub least : LeastWord k (λ v. answer M v ≢ answer N v)
-  pub is : least .word ≡ w
-  pub front : Word
-  pub last : ℕ
-  pub joined : w ≡ front ++ (last ∷ [])
-  pub alike : answer M front ≡ answer N front
-  pub apart : ask M w ≢ ask N w
-
 -- no counterexample is left, or one is
 left-none : {A : Type 0} {w : Word} → _≡_ {A = Option Word} none (some w) → A
 left-none e = let z : _≡_ {A = ℕ} 0 1 = cc in absurd (omega arith)
@@ -57,7 +45,8 @@ left-none e = let z : _≡_ {A = ℕ} 0 1 = cc in absurd (omega arith)
 -- REFUSED at the door: no byte of either area changes.
 pub refused-leaves : (n k : ℕ) (words : List ℕ) (L R : ℕ) (table sheet : List ℕ) (x : ℕ) → learnCheck n k words L R table sheet ≡ refused x
     → learn n k words L R table sheet ≡ record { answer = refused x; table = table; sheet = sheet }
-refused-leaves = outcomes.refused-leaves
+unfolding learn learnLeaves
+refused-leaves n k words L R table sheet x e = ap (λ (a : Answer (Unit {0})). learnLeaves a n k words L R table sheet) e
 
 module _ (n k : ℕ) (words : List ℕ) (L R : ℕ) (table sheet : List ℕ) (asked : learnCheck n k words L R table sheet ≡ gives tt) where
   proper : Proper k (link n k words)
@@ -134,40 +123,10 @@ module _ (n k : ℕ) (words : List ℕ) (L R : ℕ) (table sheet : List ℕ) (as
     stop = at-open (ended n k words L R table sheet asked) is
 
     differs : Differs k (link n k words) (conjectured k (link n k words) R) (stop .word)
-    unfolding counterexample answer
-    differs = made (found k pos M C whole wholeC 0 0 (whole .0) (wholeC .0) (stop .word) e)
-      where
-        M : Machine
-        M = link n k words
-
-        C : Machine
-        C = conjectured k M R
-
-        pos : 0 < k
-        pos = proper .k-low
-
-        whole : Complete k M
-        whole = proper .whole
-
-        wholeC : Complete k C
-        wholeC = conjecture-complete k M (at-stop k M pos whole R .stage)
-
-        e : counterexample k M (stopped k M R .E) (stopped k M R .S) ≡ some (stop .word)
-        e = sym (at-stop k M pos whole R .asked) ∙ stop .still
-
-        made : Apart k M C 0 0 (stop .word) → Differs k M C (stop .word)
-        made f =
-            let x = found-least k pos M C whole wholeC 0 0 (whole .0) (wholeC .0) (stop .word) e in
-            let long : length (f .front) < length (f .front ++ (f .last ∷ [])) = simp length-append (omega arith) in
-            record {
-              least = x .0;
-              is = x .1;
-              front = f .front;
-              last = f .last;
-              joined = f .joined;
-              alike = found-last k pos M C whole wholeC 0 0 (whole .0) (wholeC .0) (stop .word) e (f .front) (f .letters) (rw (f .joined) long);
-              apart = rw (f .joined, ask-snoc M (f .front) (f .last), ask-snoc C (f .front) (f .last)) (f .differ);
-            }
+    unfolding counterexample
+    differs =
+        let s = at-stop k (link n k words) (proper .k-low) (proper .whole) R in
+        difference-differs k (link n k words) (conjectured k (link n k words) R) (proper .k-low) (proper .whole) (conjecture-complete k (link n k words) (s .stage)) (stop .word) (sym (s .asked) ∙ stop .still)
 
     -- OPEN. The sheet area begins with a word, the least on which machine and conjecture differ; only its last outputs differ.
     pub open-word : (w : Word) × (learn n k words L R table sheet .sheet ≡ over (wordBytes CX w) sheet) × (c .bytes ≡ length (wordBytes CX w))
