@@ -68,10 +68,11 @@ module _ (n k : ℕ) (words : List ℕ) (L R : ℕ) (table sheet : List ℕ) (as
         most = mul-le-mul rows columns;
       }
 
-  -- TEN. It is given exactly when S has more than L words where the rounds stop; the table's 34,043 bytes are then zero, and the rest is as it was.
+  -- TEN is given exactly when S has more than L words where the rounds stop.
   pub ten-when : (learn n k words L R table sheet .answer ≡ refused 10) ↔ (L < length (stopped k (link n k words) R .S))
   ten-when = let o = ended n k words L R table sheet asked in (λ e. at-ten o e .0, ten-at o)
 
+  -- It zeroes the first 34,043 bytes of the table area, and leaves all else as it was.
   pub ten-leaves : learn n k words L R table sheet .answer ≡ refused 10
       → learn n k words L R table sheet ≡ record { answer = refused 10; table = over (zeros tableSize) table; sheet = sheet }
   ten-leaves e = at-ten (ended n k words L R table sheet asked) e .1
@@ -80,10 +81,11 @@ module _ (n k : ℕ) (words : List ℕ) (L R : ℕ) (table sheet : List ℕ) (as
     at : AtDone k (link n k words) L (stopped k (link n k words) R) table sheet c (learn n k words L R table sheet)
     at = at-done (ended n k words L R table sheet asked) is
 
-    -- DONE. The sheet area begins with the proof sheet, and the count of bytes is its length.
+    -- DONE. The sheet area begins with the proof sheet.
     pub done-sheet : learn n k words L R table sheet .sheet ≡ over (proofBytes (sheetOf k (link n k words) R)) sheet
     done-sheet = ap (λ (l : Left). l .sheet) (at .leaves)
 
+    -- The bytes counted are the sheet's.
     pub done-bytes : c .bytes ≡ length (proofBytes (sheetOf k (link n k words) R))
     unfolding counts
     done-bytes = ap (λ (c : Counts). c .bytes) (at .counted)
@@ -106,11 +108,12 @@ module _ (n k : ℕ) (words : List ℕ) (L R : ℕ) (table sheet : List ℕ) (as
     unfolding lent
     done-unreached s h f = finish.map-unreached proper R (at .closed) s h f
 
-    -- The states counted are the model's, and the cells are rows times columns.
+    -- The states counted are the model's.
     pub done-states : c .states ≡ sheetOf k (link n k words) R .m
     unfolding counts
     done-states = ap (λ (c : Counts). c .states) (at .counted) ∙ sym (finish.model-states proper R (at .closed))
 
+    -- The cells counted are those of the table left, rows times columns; the rounds are fewer than the states.
     pub done-figures : Figures n k (stopped k (link n k words) R) c
     done-figures = subst (Figures n k (stopped k (link n k words) R)) (sym (at .counted)) (figures (proofBytes (sheetOf k (link n k words) R)))
 
@@ -134,7 +137,7 @@ module _ (n k : ℕ) (words : List ℕ) (L R : ℕ) (table sheet : List ℕ) (as
     unfolding counts
     open-word = (stop .word, ap (λ (l : Left). l .sheet) (stop .leaves), ap (λ (c : Counts). c .bytes) (stop .counted), differs)
 
-    -- R rounds are past, and they are fewer than the words of S; the cells are rows times columns.
+    -- R rounds are past.
     pub open-rounds : c .rounds ≡ R
     unfolding counts
     open-rounds = ap (λ (c : Counts). c .rounds) (stop .counted) ∙ go (at-stop k (link n k words) (proper .k-low) (proper .whole) R .end)
@@ -143,6 +146,7 @@ module _ (n k : ℕ) (words : List ℕ) (L R : ℕ) (table sheet : List ℕ) (as
         go (inl e) = left-none (sym e ∙ stop .still)
         go (inr e) = omega arith
 
+    -- They are fewer than the words of S; the cells counted are those of the table left, rows times columns.
     pub open-figures : Figures n k (stopped k (link n k words) R) c
     open-figures = subst (Figures n k (stopped k (link n k words) R)) (sym (stop .counted)) (figures (wordBytes CX (stop .word)))
 
