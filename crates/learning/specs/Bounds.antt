@@ -13,7 +13,8 @@ use Rattle.rules.specs.Machine.{Machine, ask}
 use Rattle.rules.specs.Table.{conjecture, suffix}
 use Rattle.rules.specs.Closing.{all-snoc}
 use Rattle.rules.specs.Rounds.{Stop, more, rounds, learned}
-use Rattle.rules.specs.DifferenceLaws.{found-short}
+use Rattle.rules.specs.Difference.{pairs}
+use Rattle.rules.specs.DifferenceLaws.{pairs-few, found-short}
 use Rattle.rules.specs.Links.{counterexample, stopped, at-stop, conjecture-complete, words-few, one-letter-at, one-letter-length}
 use Rattle.rules.specs.Advance.{advance, stop-more}
 use Rattle.rules.specs.Smallest.{full-none}
@@ -34,6 +35,8 @@ pub record Bounds (k : ℕ) (M : Machine) (x : Stop) : Type 0 where
   -- a counterexample is left only where a word more is to come
   pub open-words : (w : Word) → x .left ≡ some w → length (x .S) < M .states
   pub word-left-short : (w : Word) → x .left ≡ some w → length w ≤ 94
+  -- the pairs of states that the search meets
+  pub pairs-most : length (pairs M (conjecture (ask M) (x .E) (x .S)) k 0 0) ≤ 2304
 
 module _ {k : ℕ} {M : Machine} (I : Proper k M) where
   few : (R : ℕ) → length (stopped k M R .S) ≤ M .states
@@ -59,6 +62,14 @@ module _ {k : ℕ} {M : Machine} (I : Proper k M) where
       let l = found-short k (I .k-low) M (conjecture (ask M) (stopped k M R .E) (stopped k M R .S)) (I .whole) C 0 0 (I .whole .0) (C .0) w (sym (s .asked) ∙ e) in
       let f = fewer R w e in
       omega (arith, I .n-high)
+
+  met : (R : ℕ) → length (pairs M (conjecture (ask M) (stopped k M R .E) (stopped k M R .S)) k 0 0) ≤ 2304
+  unfolding conjecture
+  met R =
+      let C = conjecture-complete k M (at-stop k M (I .k-low) (I .whole) R .stage) in
+      let l = pairs-few k (I .k-low) M (conjecture (ask M) (stopped k M R .E) (stopped k M R .S)) (I .whole) C 0 0 (I .whole .0) (C .0) in
+      let f = few R in
+      omega (arith, mul-le-mul {n₁ = M .states} {m₁ = length (stopped k M R .S)} {n₂ = 48} {m₂ = 48} (I .n-high) (omega (arith, I .n-high)))
 
   abbrev Short : List Word → Type 0
   Short E = (c : ℕ) → c < length E → length (getD E c []) ≤ 93
@@ -94,4 +105,5 @@ module _ {k : ℕ} {M : Machine} (I : Proper k M) where
         column-short = short R;
         open-words = fewer R;
         word-left-short = left-short R;
+        pairs-most = met R;
       }

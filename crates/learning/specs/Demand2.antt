@@ -4,26 +4,24 @@
 use mathlib.Core.Path.{_≡_, refl, sym, ap, _∙_, subst}
 use mathlib.Core.Logic.{_⊎_, inl, inr, _≢_, _↔_}
 use mathlib.Core.Option.{Option, none, some}
-use mathlib.Core.List.{List, [], _∷_, _++_}
+use mathlib.Core.List.{List}
 use Prim.Native.Nat.{ℕ, _+_, _*_, _-_, _≤_, _<_}
 use native.Mathlib.Nat.{mul-le-mul, mul-le-mul-right}
 use native.Mathlib.Omega.{arith}
-use lib.ListN.{length, getD, length-append}
-use Rattle.rules.specs.Words.{Word, Below, LeastWord}
+use lib.ListN.{length, getD}
+use Rattle.rules.specs.Words.{Word, Below}
 use Rattle.rules.specs.Search.{walk}
-use Rattle.rules.specs.Machine.{Machine, Complete, lent, answer, ask, Equal, SmallestModel, ByLeastWords}
-use Rattle.rules.specs.MachineLaws.{ask-snoc}
+use Rattle.rules.specs.Machine.{Machine, Complete, lent, Equal, SmallestModel, ByLeastWords}
 use Rattle.rules.specs.Table.{conjecture}
 use Rattle.rules.specs.Rounds.{Stop, cellCount}
 use Rattle.rules.specs.Links.{counterexample, stopped, at-stop, conjecture-complete, rounds-enough, words-few}
-use Rattle.rules.specs.DifferenceLaws.{Apart, found, found-least, found-last}
+use Rattle.rules.specs.Differs.{Differs, difference-differs}
 use Rattle.rules.specs.Sheets.{proofBytes, wordBytes, CX}
 use Rattle.rules.specs.Areas.{over, zeros}
-use Rattle.rules.specs.Answer.{refused, gives}
+use Rattle.rules.specs.Answer.{Answer, refused, gives}
 use Rattle.machine.specs.Lent.{link}
 use Rattle.machine.specs.LentLaws.{lent-sound}
-use Rattle.learning.specs.Learner.{Counts, done, unfinished, Left, tableSize, tableBytes, learnCheck, counts, learn}
-use Rattle.learning.specs.Outcomes as outcomes
+use Rattle.learning.specs.Learner.{Counts, done, unfinished, Left, tableSize, tableBytes, learnCheck, counts, learnLeaves, learn}
 use Rattle.learning.specs.Outcomes.{taken, Outcome, over-limit, is-done, is-open, AtDone, AtOpen, at-ten, ten-at, at-done, at-open, ended}
 use Rattle.learning.specs.Proper.{Proper, sound-proper}
 use Rattle.learning.specs.Bounds.{stop-bounds}
@@ -40,16 +38,6 @@ pub record Figures (n k : ℕ) (x : Stop) (c : Counts) : Type 0 where
   pub few : c .states ≤ n
   pub most : c .cells ≤ (1 + n * k) * (k + n - 1)
 
--- w is the least word that M and N answer differently, and only its last outputs differ
-pub record Differs (k : ℕ) (M N : Machine) (w : Word) : Type 0 where
-  pub least : LeastWord k (λ v. answer M v ≢ answer N v)
-  pub is : least .word ≡ w
-  pub front : Word
-  pub last : ℕ
-  pub joined : w ≡ front ++ (last ∷ [])
-  pub alike : answer M front ≡ answer N front
-  pub apart : ask M w ≢ ask N w
-
 -- no counterexample is left, or one is
 left-none : {A : Type 0} {w : Word} → _≡_ {A = Option Word} none (some w) → A
 left-none e = let z : _≡_ {A = ℕ} 0 1 = cc in absurd (omega arith)
@@ -57,7 +45,8 @@ left-none e = let z : _≡_ {A = ℕ} 0 1 = cc in absurd (omega arith)
 -- REFUSED at the door: no byte of either area changes.
 pub refused-leaves : (n k : ℕ) (words : List ℕ) (L R : ℕ) (table sheet : List ℕ) (x : ℕ) → learnCheck n k words L R table sheet ≡ refused x
     → learn n k words L R table sheet ≡ record { answer = refused x; table = table; sheet = sheet }
-refused-leaves = outcomes.refused-leaves
+unfolding learn learnLeaves
+refused-leaves n k words L R table sheet x e = ap (λ (a : Answer (Unit {0})). learnLeaves a n k words L R table sheet) e
 
 module _ (n k : ℕ) (words : List ℕ) (L R : ℕ) (table sheet : List ℕ) (asked : learnCheck n k words L R table sheet ≡ gives tt) where
   proper : Proper k (link n k words)
@@ -79,10 +68,11 @@ module _ (n k : ℕ) (words : List ℕ) (L R : ℕ) (table sheet : List ℕ) (as
         most = mul-le-mul rows columns;
       }
 
-  -- TEN. It is given exactly when S has more than L words where the rounds stop; the table's 34,043 bytes are then zero, and the rest is as it was.
+  -- TEN is given exactly when S has more than L words where the rounds stop.
   pub ten-when : (learn n k words L R table sheet .answer ≡ refused 10) ↔ (L < length (stopped k (link n k words) R .S))
   ten-when = let o = ended n k words L R table sheet asked in (λ e. at-ten o e .0, ten-at o)
 
+  -- It zeroes the first 34,043 bytes of the table area, and leaves all else as it was.
   pub ten-leaves : learn n k words L R table sheet .answer ≡ refused 10
       → learn n k words L R table sheet ≡ record { answer = refused 10; table = over (zeros tableSize) table; sheet = sheet }
   ten-leaves e = at-ten (ended n k words L R table sheet asked) e .1
@@ -91,10 +81,11 @@ module _ (n k : ℕ) (words : List ℕ) (L R : ℕ) (table sheet : List ℕ) (as
     at : AtDone k (link n k words) L (stopped k (link n k words) R) table sheet c (learn n k words L R table sheet)
     at = at-done (ended n k words L R table sheet asked) is
 
-    -- DONE. The sheet area begins with the proof sheet, and the count of bytes is its length.
+    -- DONE. The sheet area begins with the proof sheet.
     pub done-sheet : learn n k words L R table sheet .sheet ≡ over (proofBytes (sheetOf k (link n k words) R)) sheet
     done-sheet = ap (λ (l : Left). l .sheet) (at .leaves)
 
+    -- The bytes counted are the sheet's.
     pub done-bytes : c .bytes ≡ length (proofBytes (sheetOf k (link n k words) R))
     unfolding counts
     done-bytes = ap (λ (c : Counts). c .bytes) (at .counted)
@@ -117,11 +108,12 @@ module _ (n k : ℕ) (words : List ℕ) (L R : ℕ) (table sheet : List ℕ) (as
     unfolding lent
     done-unreached s h f = finish.map-unreached proper R (at .closed) s h f
 
-    -- The states counted are the model's, and the cells are rows times columns.
+    -- The states counted are the model's.
     pub done-states : c .states ≡ sheetOf k (link n k words) R .m
     unfolding counts
     done-states = ap (λ (c : Counts). c .states) (at .counted) ∙ sym (finish.model-states proper R (at .closed))
 
+    -- The cells counted are those of the table left, rows times columns; the rounds are fewer than the states.
     pub done-figures : Figures n k (stopped k (link n k words) R) c
     done-figures = subst (Figures n k (stopped k (link n k words) R)) (sym (at .counted)) (figures (proofBytes (sheetOf k (link n k words) R)))
 
@@ -134,40 +126,10 @@ module _ (n k : ℕ) (words : List ℕ) (L R : ℕ) (table sheet : List ℕ) (as
     stop = at-open (ended n k words L R table sheet asked) is
 
     differs : Differs k (link n k words) (conjectured k (link n k words) R) (stop .word)
-    unfolding counterexample answer
-    differs = made (found k pos M C whole wholeC 0 0 (whole .0) (wholeC .0) (stop .word) e)
-      where
-        M : Machine
-        M = link n k words
-
-        C : Machine
-        C = conjectured k M R
-
-        pos : 0 < k
-        pos = proper .k-low
-
-        whole : Complete k M
-        whole = proper .whole
-
-        wholeC : Complete k C
-        wholeC = conjecture-complete k M (at-stop k M pos whole R .stage)
-
-        e : counterexample k M (stopped k M R .E) (stopped k M R .S) ≡ some (stop .word)
-        e = sym (at-stop k M pos whole R .asked) ∙ stop .still
-
-        made : Apart k M C 0 0 (stop .word) → Differs k M C (stop .word)
-        made f =
-            let x = found-least k pos M C whole wholeC 0 0 (whole .0) (wholeC .0) (stop .word) e in
-            let long : length (f .front) < length (f .front ++ (f .last ∷ [])) = simp length-append (omega arith) in
-            record {
-              least = x .0;
-              is = x .1;
-              front = f .front;
-              last = f .last;
-              joined = f .joined;
-              alike = found-last k pos M C whole wholeC 0 0 (whole .0) (wholeC .0) (stop .word) e (f .front) (f .letters) (rw (f .joined) long);
-              apart = rw (f .joined, ask-snoc M (f .front) (f .last), ask-snoc C (f .front) (f .last)) (f .differ);
-            }
+    unfolding counterexample
+    differs =
+        let s = at-stop k (link n k words) (proper .k-low) (proper .whole) R in
+        difference-differs k (link n k words) (conjectured k (link n k words) R) (proper .k-low) (proper .whole) (conjecture-complete k (link n k words) (s .stage)) (stop .word) (sym (s .asked) ∙ stop .still)
 
     -- OPEN. The sheet area begins with a word, the least on which machine and conjecture differ; only its last outputs differ.
     pub open-word : (w : Word) × (learn n k words L R table sheet .sheet ≡ over (wordBytes CX w) sheet) × (c .bytes ≡ length (wordBytes CX w))
@@ -175,7 +137,7 @@ module _ (n k : ℕ) (words : List ℕ) (L R : ℕ) (table sheet : List ℕ) (as
     unfolding counts
     open-word = (stop .word, ap (λ (l : Left). l .sheet) (stop .leaves), ap (λ (c : Counts). c .bytes) (stop .counted), differs)
 
-    -- R rounds are past, and they are fewer than the words of S; the cells are rows times columns.
+    -- R rounds are past.
     pub open-rounds : c .rounds ≡ R
     unfolding counts
     open-rounds = ap (λ (c : Counts). c .rounds) (stop .counted) ∙ go (at-stop k (link n k words) (proper .k-low) (proper .whole) R .end)
@@ -184,6 +146,7 @@ module _ (n k : ℕ) (words : List ℕ) (L R : ℕ) (table sheet : List ℕ) (as
         go (inl e) = left-none (sym e ∙ stop .still)
         go (inr e) = omega arith
 
+    -- They are fewer than the words of S; the cells counted are those of the table left, rows times columns.
     pub open-figures : Figures n k (stopped k (link n k words) R) c
     open-figures = subst (Figures n k (stopped k (link n k words) R)) (sym (stop .counted)) (figures (wordBytes CX (stop .word)))
 

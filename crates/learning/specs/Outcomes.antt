@@ -56,11 +56,6 @@ pub learn-leaves : (n k : ℕ) (words : List ℕ) (L R : ℕ) (table sheet : Lis
 unfolding learn learnLeaves
 learn-leaves n k words L R table sheet e = ap (λ (a : Answer (Unit {0})). learnLeaves a n k words L R table sheet) e
 
-pub refused-leaves : (n k : ℕ) (words : List ℕ) (L R : ℕ) (table sheet : List ℕ) (x : ℕ) → learnCheck n k words L R table sheet ≡ refused x
-    → learn n k words L R table sheet ≡ record { answer = refused x; table = table; sheet = sheet }
-unfolding learn learnLeaves
-refused-leaves n k words L R table sheet x e = ap (λ (a : Answer (Unit {0})). learnLeaves a n k words L R table sheet) e
-
 -- ---- where the rounds stop
 abbrev pub tenLeaves : List ℕ → List ℕ → Left
 tenLeaves table sheet = record { answer = refused 10; table = over (zeros tableSize) table; sheet = sheet }

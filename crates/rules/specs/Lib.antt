@@ -30,3 +30,5 @@ pub mod Smallest
 pub mod Advance
 pub mod StateMap
 pub mod ProofLength
+pub mod Differs
+pub mod Listed

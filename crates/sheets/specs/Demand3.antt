@@ -57,13 +57,12 @@ module _ (n k : ℕ) (words : List ℕ) (taken : lentCheck n k words ≡ gives t
   unfolding lent
   every-smallest-accepted N m = any-judged proper 47 (rounds-enough k (link n k words) (proper .k-low) (proper .whole) 47 (proper .n-high)) m
 
-  -- ---- from the sheet's bytes
-  -- a sheet that is read as P is judged as P
+  -- A sheet that is read as P is judged as P ..
   pub read-judged : (sheet rest : List ℕ) (P : Proof) → proofSheet sheet ≡ good P rest → check n k words sheet ≡ judge n k (link n k words) P
   unfolding check
   read-judged sheet rest P e = rw (taken, e)
 
--- whatever is accepted was read, and judged
+-- .. and whatever is accepted was read and judged so.
 pub accepted-read : (n k : ℕ) (words sheet : List ℕ) → check n k words sheet ≡ gives tt
     → (lentCheck n k words ≡ gives tt) × ((P : Proof) × (rest : List ℕ) × (proofSheet sheet ≡ good P rest) × (judge n k (link n k words) P ≡ gives tt))
 unfolding check

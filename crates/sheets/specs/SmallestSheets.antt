@@ -4,22 +4,19 @@ use mathlib.Core.Path.{_≡_, refl, sym, ap, _∙_, subst}
 use mathlib.Core.Logic.{_⊎_, inl, inr, _≢_}
 use mathlib.Core.Bool.{true}
 use mathlib.Core.Option.{none}
-use mathlib.Core.List.{List, [], _∷_, _++_, map}
-use Prim.Native.Nat.{ℕ, zero, suc, _+_, _*_, _/_, _%_, _≤_, _<_}
+use mathlib.Core.List.{List, [], _∷_, _++_}
+use Prim.Native.Nat.{ℕ, zero, suc, _*_, _/_, _%_, _≤_, _<_}
 use native.Mathlib.Nat.{not-suc-le-zero, le-of-suc-le-suc, div-add-mod', mod-lt, div-lt-iff-lt-mul}
-use native.Mathlib.Decide.{ℕ-discrete}
 use native.Mathlib.Omega.{arith}
 use lib.ListN.{length, getD}
 use lib.Arith.{digits-div}
 use lib.Dec.{ltb}
-use Rattle.rules.specs.Least.{Least, least}
 use Rattle.rules.specs.Tests.{lt-yes}
 use Rattle.rules.specs.Words.{Word, Below, below-append}
 use Rattle.rules.specs.Search.{walk, walk-append}
 use Rattle.rules.specs.Machine.{Machine, Complete, lent, SmallestModel}
 use Rattle.rules.specs.MachineLaws.{walk-low}
-use Rattle.rules.specs.Table.{from}
-use Rattle.rules.specs.FromLaws.{map-from-length, map-from-at}
+use Rattle.rules.specs.Listed.{Listed, listed}
 use Rattle.rules.specs.Links.{stopped}
 use Rattle.rules.specs.Same.{Same, words-length, words-at, read-back, same-walk, same-smallest}
 use Rattle.rules.specs.Smallest.{after-letter, each-reached, one-state, one-for-each, outputs}
@@ -159,72 +156,41 @@ module _ {k : ℕ} {M : Machine} (I : Proper k M) (R : ℕ) (closed : stopped k 
 
 -- ---- any smallest model's
 module _ {k : ℕ} {M N : Machine} (I : Proper k M) (R : ℕ) (closed : stopped k M R .left ≡ none) (m : SmallestModel k M N) where
-  -- a word of S that leads N to a state
-  abbrev Leading : ℕ → Type 0
-  Leading j = Least (λ i. walk (N .next) 0 (getD (stopped k M R .S) i []) ≡ j) (length (stopped k M R .S))
+  -- words of S that lead N to its states
+  words : Listed (λ j w. (length w ≤ 47) × Below k w × (walk (N .next) 0 w ≡ j)) [] (N .states)
+  words =
+      listed (λ j w. (length w ≤ 47) × Below k w × (walk (N .next) 0 w ≡ j)) [] (N .states)
+      (λ j h. let l = each-reached (tells I R closed N m) j h in
+      (getD (stopped k M R .S) (l .at) [], (stop-bounds I R .word-short (l .at) (l .below), tells I R closed N m .words (l .at) (l .below), l .has)))
 
-  abbrev NoneLeads : ℕ → Type 0
-  NoneLeads j = (i : ℕ) → i < length (stopped k M R .S) → ¬ (walk (N .next) 0 (getD (stopped k M R .S) i []) ≡ j)
+  -- N's states for those of M
+  abbrev StateFor : ℕ → ℕ → Type 0
+  StateFor s t = ((w : Word) → Below k w → walk (M .next) 0 w ≡ s → t ≡ walk (N .next) 0 w) × (Unreached k M s → t ≡ 255)
 
-  sought : (j : ℕ) → Leading j ⊎ NoneLeads j
-  sought j = least (λ i. walk (N .next) 0 (getD (stopped k M R .S) i []) ≡ j) (λ i. ℕ-discrete (walk (N .next) 0 (getD (stopped k M R .S) i [])) j) (length (stopped k M R .S))
-
-  wordOf : (j : ℕ) → Leading j ⊎ NoneLeads j → Word
-  wordOf j (inl l) = getD (stopped k M R .S) (l .at) []
-  wordOf j (inr f) = []
-
-  word-right : (j : ℕ) → j < N .states → (x : Leading j ⊎ NoneLeads j) → (length (wordOf j x) ≤ 47) × Below k (wordOf j x) × (walk (N .next) 0 (wordOf j x) ≡ j)
-  unfolding wordOf
-  word-right j h (inl l) = (stop-bounds I R .word-short (l .at) (l .below), tells I R closed N m .words (l .at) (l .below), l .has)
-  word-right j h (inr f) = let l = each-reached (tells I R closed N m) j h in absurd (f (l .at) (l .below) (l .has))
-
-  -- the model's state for a machine state
-  stateFor : (s : ℕ) → Reached k M s ⊎ Unreached k M s → ℕ
-  stateFor s (inl r) = walk (N .next) 0 (r .word)
-  stateFor s (inr u) = 255
-
-  state-right : (w : Word) → Below k w → (x : Reached k M (walk (M .next) 0 w) ⊎ Unreached k M (walk (M .next) 0 w)) → stateFor (walk (M .next) 0 w) x ≡ walk (N .next) 0 w
-  unfolding stateFor
-  state-right w b (inl r) = one-for-each (tells I R closed N m) (r .word) w (r .letters) b (r .leads)
-  state-right w b (inr u) = absurd (u w b refl)
-
-  state-none : (s : ℕ) → Unreached k M s → (x : Reached k M s ⊎ Unreached k M s) → stateFor s x ≡ 255
-  unfolding stateFor
-  state-none s u (inl r) = absurd (u (r .word) (r .letters) (r .leads))
-  state-none s u (inr v) = refl
-
-  words : List Word
-  unfolding wordOf sought
-  words = map (λ (j : ℕ). wordOf j (sought j)) (from 0 (N .states))
-
-  states : List ℕ
-  unfolding stateFor
-  states = map (λ (s : ℕ). stateFor s (reached-or-not k M (I .whole) s)) (from 0 (M .states))
-
-  any-entries : Entries k M N words states
-  unfolding words states
-  any-entries = record {
-    many = map-from-length (λ (j : ℕ). wordOf j (sought j)) 0 (N .states);
-    short = λ j h. rw (word-at j h) (word-right j h (sought j) .0);
-    letters = λ j h. rw (word-at j h) (word-right j h (sought j) .1);
-    reaches = λ j h. rw (word-at j h) (word-right j h (sought j) .2);
-    long = map-from-length (λ (s : ℕ). stateFor s (reached-or-not k M (I .whole) s)) 0 (M .states);
-    mapped = λ w b. let s = walk (M .next) 0 w in
-        state-at s (walk-low (M .states) k (M .next) (I .whole .1) 0 w (I .whole .0) b) ∙ state-right w b (reached-or-not k M (I .whole) s);
-    unmapped = λ s h u. state-at s h ∙ state-none s u (reached-or-not k M (I .whole) s);
-  }
+  states : Listed StateFor 255 (M .states)
+  states = listed StateFor 255 (M .states) (λ s h. one s (reached-or-not k M (I .whole) s))
     where
-      word-at : (j : ℕ) → j < N .states → getD words j [] ≡ wordOf j (sought j)
-      word-at j h = let z : 0 + j ≡ j = omega arith in map-from-at (λ (j : ℕ). wordOf j (sought j)) 0 (N .states) j [] h ∙ ap (λ (j : ℕ). wordOf j (sought j)) z
+      one : (s : ℕ) → Reached k M s ⊎ Unreached k M s → (t : ℕ) × StateFor s t
+      one s (inl r) = (
+        walk (N .next) 0 (r .word),
+        (λ w b e. one-for-each (tells I R closed N m) (r .word) w (r .letters) b (r .leads ∙ sym e), λ u. absurd (u (r .word) (r .letters) (r .leads))),
+      )
+      one s (inr u) = (255, (λ w b e. absurd (u w b e), λ v. refl))
 
-      state-at : (s : ℕ) → s < M .states → getD states s 255 ≡ stateFor s (reached-or-not k M (I .whole) s)
-      state-at s h =
-          let z : 0 + s ≡ s = omega arith in
-          map-from-at (λ (s : ℕ). stateFor s (reached-or-not k M (I .whole) s)) 0 (M .states) s 255 h ∙ ap (λ (s : ℕ). stateFor s (reached-or-not k M (I .whole) s)) z
+  any-entries : Entries k M N (words .list) (states .list)
+  any-entries = record {
+    many = words .long;
+    short = λ j h. words .at j h .0;
+    letters = λ j h. words .at j h .1;
+    reaches = λ j h. words .at j h .2;
+    long = states .long;
+    mapped = λ w b. states .at (walk (M .next) 0 w) (walk-low (M .states) k (M .next) (I .whole .1) 0 w (I .whole .0) b) .0 w b refl;
+    unmapped = λ s h u. states .at s h .1 u;
+  }
 
   pub any-judged : (P : Proof) × Same k N (modelOf P) × Seen P × (judge (M .states) k M P ≡ gives tt)
   any-judged = (
-    sheetFor k M (stopped k M R .E) N words states,
+    sheetFor k M (stopped k M R .E) N (words .list) (states .list),
     model-same I R closed m any-entries,
     sheet-seen I R closed m any-entries,
     sheet-judged I R closed m any-entries,
