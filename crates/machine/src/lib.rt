@@ -85,10 +85,10 @@ pub fn state_after(words: &[u16], n: usize, k: usize, w: &[u8]) -> usize
     ensures { λ r. ⌜ r ≡ walk (link n k (now (words .entry)) .next) 0 (now (w .entry)) ⌝ }
 {
     let mut state: usize = 0;
-    let mut at: usize = 0;
-    while at < w.len() {
-        state = next(words, k, state, wide(w[at]));
-        at += 1;
+    let mut i: usize = 0;
+    while i < w.len() {
+        state = next(words, k, state, wide(w[i]));
+        i += 1;
     }
     state
 }

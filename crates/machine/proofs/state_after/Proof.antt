@@ -17,16 +17,16 @@ use Rattle.machine.proofs.next.Reads as next-reads
 use Rattle.machine.proofs.wide.Reads as wide-reads
 
 abbrev Inv-loop : tie.InvT-loop
-Inv-loop words n k w state₀ at₀ state at = (at ≤ length w) × (state < n) × (walk (link n k words .next) 0 w ≡ walk (link n k words .next) state (drop at w))
+Inv-loop words n k w state₀ i₀ state i = (i ≤ length w) × (state < n) × (walk (link n k words .next) 0 w ≡ walk (link n k words .next) state (drop i w))
 
 abbrev μ-loop : tie.MeasureT-loop
-μ-loop words n k w state₀ at₀ state at = length w - at
+μ-loop words n k w state₀ i₀ state i = length w - i
 
 -- the letter that a turn reads is below k
 known : (c : tie.After-wide Inv-loop μ-loop) → c .wide .result < c .before .before .before .before .before .before .args .k
 known c =
     let a = c .before .before .before .before .before .before .args in
-    rw (c .wide .ensures) (below-at (a .k) (a .w .now) (c .before .before .before .loop .at) (letters-below (a .k) (a .w .now) (c .before .before .before .before .before .before .pre .1)) (search needs))
+    rw (c .wide .ensures) (below-at (a .k) (a .w .now) (c .before .before .before .loop .i) (letters-below (a .k) (a .w .now) (c .before .before .before .before .before .before .pre .1)) (search needs))
 
 loop-holds : tie.Need-loop-holds Inv-loop μ-loop
 loop-holds c = (search needs, c .before .before .pre .0 .some, refl)
@@ -40,18 +40,18 @@ wide-requires c κs = search needs
 next-requires : tie.Need-next-requires Inv-loop μ-loop
 next-requires c κs = omega (arith, c .before .before .before .before .before .before .pre .0 .long, digits-lt (c .before .before .before .loop .inv .1) (known c))
 
-add-at : tie.Need-add-at Inv-loop μ-loop
-add-at c = search needs
+add-i : tie.Need-add-i Inv-loop μ-loop
+add-i c = search needs
 
 loop-less : tie.Need-loop-less Inv-loop μ-loop
 loop-less c = search needs
 
 loop-again : tie.Need-loop-again Inv-loop μ-loop
 unfolding lent
-loop-again c = let a = c .before .before .before .before .before .before .before .args in let l = c .before .before .before .before .loop in (search needs, rw (c .next .ensures) (c .before .before .before .before .before .before .before .pre .0 .next (l .state) (c .before .wide .result) (l .inv .1) (known (c .before))), rw (c .next .ensures, c .before .wide .ensures) (l .inv .2 ∙ walk-step (link (a .n) (a .k) (a .words .now)) (l .state) (a .w .now) (l .at) (search needs)))
+loop-again c = let a = c .before .before .before .before .before .before .before .args in let l = c .before .before .before .before .loop in (search needs, rw (c .next .ensures) (c .before .before .before .before .before .before .before .pre .0 .next (l .state) (c .before .wide .result) (l .inv .1) (known (c .before))), rw (c .next .ensures, c .before .wide .ensures) (l .inv .2 ∙ walk-step (link (a .n) (a .k) (a .words .now)) (l .state) (a .w .now) (l .i) (search needs)))
 
 returns : tie.Need-returns Inv-loop μ-loop
-returns c = let a = c .before .before .before .before .args in let l = c .before .loop in sym (l .inv .2 ∙ walk-ends (link (a .n) (a .k) (a .words .now)) (l .state) (a .w .now) (l .at) (search needs))
+returns c = let a = c .before .before .before .before .args in let l = c .before .loop in sym (l .inv .2 ∙ walk-ends (link (a .n) (a .k) (a .words .now)) (l .state) (a .w .now) (l .i) (search needs))
 
 pub state-after-spec : {M : Type 1} → statement M
 state-after-spec =
@@ -63,7 +63,7 @@ state-after-spec =
     shared-slice-read-wide
     wide-requires
     next-requires
-    add-at
+    add-i
     loop-less
     loop-again
     returns)
