@@ -14,3 +14,4 @@ pub mod Bounds
 pub mod Finished
 pub mod Demand2
 pub mod Start
+pub mod Modelled

@@ -32,3 +32,4 @@ pub mod StateMap
 pub mod ProofLength
 pub mod Differs
 pub mod Listed
+pub mod SameDifference
