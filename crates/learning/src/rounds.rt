@@ -15,6 +15,10 @@ ghost use Rattle.rules.specs.Rounds.{more};
 ghost use Rattle.rules.specs.Table as rules;
 ghost use Rattle.rules.specs.Table.{oneLetter};
 ghost use Rattle.learning.specs.Start.{Ones};
+ghost use Rattle.learning.specs.Modelled.{Modelled};
+ghost use Rattle.learning.specs.Pairs.{foundLength, foundPut};
+ghost use Rattle.rules.specs.Closing.{Shut};
+ghost use Rattle.rules.specs.Links.{counterexample};
 use crate::store::copy_word;
 
 // The answer to `w` with its first `i` letters replaced by the word of S for `state`.
@@ -149,4 +153,29 @@ pub fn begin(
     rows[0] = 0;
     crate::table::fill_rows(table, words, n, k, s, 1, columns, word, 0, 1 + k, 0, k);
     crate::closing::close(words, n, k, table, s, rows, 1, columns, k, word)
+}
+
+// Rules 4 and 5 at a closed table: the conjecture is put to the start of `model`, and the counterexample to the start of `found`. Answers its
+// length, 0 where there is none.
+pub fn conclude(
+    words: &[u16],
+    n: usize,
+    k: usize,
+    table: &[u8],
+    s: &[u8],
+    rows: &[usize; 48],
+    m: usize,
+    columns: &[u8],
+    c: usize,
+    model: &mut [u16],
+    found: &mut [u8],
+) -> usize
+    requires { ⌜ Desk n k (now words) (now s) (now rows) m (now columns) c (now table) × (576 ≤ length (now model)) × (96 ≤ length (now found)) ⌝ }
+    requires { ⌜ (Shut (ask (link n k (now words))) k (columnsIn (now columns) c) (wordsIn (now s) m)) ⌝ }
+    ensures { λ _. ⌜ Modelled n k (now (words .entry)) (now (s .entry)) m (now (columns .entry)) c (now (model .exit)) ⌝ }
+    ensures { λ r. ⌜ r ≡ foundLength (counterexample k (link n k (now (words .entry))) (columnsIn (now (columns .entry)) c) (wordsIn (now (s .entry)) m)) ⌝ }
+    ensures { λ _. ⌜ now (found .exit) ≡ foundPut (counterexample k (link n k (now (words .entry))) (columnsIn (now (columns .entry)) c) (wordsIn (now (s .entry)) m)) (now (found .entry)) ⌝ }
+{
+    crate::closing::conjecture(table, rows, m, k, c, model);
+    crate::search::difference(words, n, model, m, k, found)
 }

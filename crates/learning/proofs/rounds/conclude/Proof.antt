@@ -1,0 +1,46 @@
+use mathlib.Core.Option.{Option}
+use mathlib.Core.List.{List}
+use Rattle.rules.specs.Words.{Word}
+use Rattle.learning.specs.Desk.{Desk, desk-size, desk-row}
+use Rattle.learning.specs.Pairs.{foundLength, foundPut}
+use Rattle.learning.specs.Modelled.{Modelled, modelled, modelled-difference, modelled-beside}
+use native.Mathlib.Omega.{arith}
+use mathlib.Core.Path.{_≡_, refl, sym, ap, _∙_}
+use Prim.Native.Nat.{ℕ, _+_, _*_, _-_, _/_, _%_, _<_, _≤_}
+use lib.ListN.{length, getD, take, drop, set}
+use borrow.Author.Needs.{needs}
+use Rattle.learning.proofs.rounds.conclude.Statement.{statement}
+use Rattle.learning.proofs.rounds.conclude.Tie as tie
+use Rattle.learning.proofs.rounds.conclude.Reads as reads
+use Rattle.learning.proofs.rounds.conclude.Lts as lts
+use Rattle.learning.proofs.closing.conjecture.Reads as conjecture-reads
+use Rattle.learning.proofs.search.difference.Reads as difference-reads
+
+-- the lent words are the conjecture's
+made : (c : tie.After-conjecture) → let a = c .before .before .before .before .before .before .before .before .args in Modelled (a .n) (a .k) (a .words .now) (a .s .now) (a .m) (a .columns .now) (a .c) (c .conjecture .last .1 .1 .1 .1 .1 .0)
+made c =
+    let a = c .before .before .before .before .before .before .before .before .args in
+    let D = c .before .before .before .before .before .before .before .before .pre .0 .0 in
+    modelled D (c .before .before .before .before .before .before .before .before .pre .1) (a .model .now) (c .conjecture .last .1 .1 .1 .1 .1 .0) (omega (arith, desk-size D, c .before .before .before .before .before .before .before .before .pre .0 .1)) (c .conjecture .ensures) (omega (arith, c .conjecture .kept .1 .1 .1 .1 .1 .0))
+
+conjecture-requires : tie.Need-conjecture-requires
+conjecture-requires c κs = let D = c .before .before .before .before .before .before .before .pre .0 .0 in let size = desk-size D in ((omega (arith, D .few, D .sound .n-high), D .sound .k-low, D .all, D .narrow, omega (arith, c .before .before .before .before .before .before .before .pre .0 .1), omega (arith, D .large)), λ j h. desk-row D _ (D .low j h))
+
+difference-requires : tie.Need-difference-requires
+difference-requires c κs = let D = c .before .before .before .before .before .before .before .before .before .before .before .before .pre .0 .0 in (modelled-beside D (c .before .before .before .before .before .before .before .before .before .before .before .before .pre .1) (made (c .before .before .before .before)), omega (arith, D .few, D .sound .n-high, c .before .before .before .before .before .before .before .before .before .before .before .before .pre .0 .2))
+
+same-length : tie.Need-same-length
+same-length c = search needs
+
+same-length-2 : tie.Need-same-length-2
+same-length-2 c = search needs
+
+returns : tie.Need-returns
+returns c = let D = c .before .before .before .before .before .before .before .before .before .before .before .before .before .before .before .pre .0 .0 in
+    let shut = c .before .before .before .before .before .before .before .before .before .before .before .before .before .before .before .pre .1 in
+    let e = modelled-difference D shut (made (c .before .before .before .before .before .before .before)) in
+    (made (c .before .before .before .before .before .before .before), (c .before .before .difference .ensures .0 ∙ ap foundLength e, c .before .before .difference .ensures .1 ∙ ap (λ (o : Option Word). foundPut o (c .before .before .before .before .before .before .before .before .before .before .before .before .before .before .before .args .found .now)) e))
+
+pub conclude-spec : {M : Type 1} → statement M
+conclude-spec =
+    tie.close (tie.spec conjecture-requires difference-requires same-length same-length-2 returns)
