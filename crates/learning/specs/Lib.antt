@@ -15,3 +15,4 @@ pub mod Finished
 pub mod Demand2
 pub mod Start
 pub mod Modelled
+pub mod Turns

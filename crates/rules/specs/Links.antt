@@ -89,7 +89,7 @@ module _ (k : ℕ) (M : Machine) where
     own = machine-classes k M M whole (λ w b. refl)
 
     -- what is found is a word on which oracle and conjecture differ
-    right : (p : ℕ) (E S : List Word) (w : Word) → Stage (ask M) k 1 k p E S → counterexample k M E S ≡ some w → Below k w × (ask M w ≢ guess (ask M) 1 E S w)
+    pub right : (p : ℕ) (E S : List Word) (w : Word) → Stage (ask M) k 1 k p E S → counterexample k M E S ≡ some w → Below k w × (ask M w ≢ guess (ask M) 1 E S w)
     unfolding counterexample
     right p E S w st e = go (found k pos M (conjecture (ask M) E S) whole (conjecture-complete st) 0 0 (whole .0) (conjecture-complete st .0) w e)
       where
