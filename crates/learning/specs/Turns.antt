@@ -215,9 +215,6 @@ module _ {n k : ℕ} {words : List ℕ} {p : ℕ} {s rows : List ℕ} {m : ℕ} 
     module _ (s′ : List ℕ) (m′ : ℕ) (columns′ : List ℕ) (c : ℕ) (c-is : c ≡ k + p)
         (E′ : columnsIn columns′ (c + 1) ≡ more (ask (link n k words)) 1 (columnsIn columns c) (wordsIn s m) (take left found))
         (S′ : wordsIn s′ m′ ≡ close (ask (link n k words)) k n (columnsIn columns′ (c + 1)) (wordsIn s m)) where
-      place : c + 1 ≡ k + (p + 1)
-      place = omega arith
-
       one : suc p ≡ p + 1
       one = omega arith
 
@@ -227,11 +224,20 @@ module _ {n k : ℕ} {words : List ℕ} {p : ℕ} {s rows : List ℕ} {m : ℕ} 
       cols-are : columnsIn columns′ (c + 1) ≡ more (ask (link n k words)) 1 (stopped k (link n k words) p .E) (stopped k (link n k words) p .S) (take left found)
       cols-are = E′ ∙ ap₂ (λ (X Y : List Word). more (ask (link n k words)) 1 X Y (take left found)) E-old (T .S-is)
 
-      pub turn-E : columnsIn columns′ (k + (p + 1)) ≡ stopped k (link n k words) (p + 1) .E
-      turn-E = ap (columnsIn columns′) (sym place) ∙ cols-are ∙ sym (next-E (T .desk .sound) p (take left found) (turn-left h .some′)) ∙ ap (λ (i : ℕ). stopped k (link n k words) i .E) one
+      pub turn-E : columnsIn columns′ (c + 1) ≡ stopped k (link n k words) (p + 1) .E
+      turn-E = cols-are ∙ sym (next-E (T .desk .sound) p (take left found) (turn-left h .some′)) ∙ ap (λ (i : ℕ). stopped k (link n k words) i .E) one
 
       pub turn-S : wordsIn s′ m′ ≡ stopped k (link n k words) (p + 1) .S
       turn-S = S′ ∙ ap₂ (close (ask (link n k words)) k n) cols-are (T .S-is) ∙ sym (next-S (T .desk .sound) p (take left found) (turn-left h .some′)) ∙ ap (λ (i : ℕ). stopped k (link n k words) i .S) one
 
       pub turn-past : stopped k (link n k words) (p + 1) .past ≡ p + 1
       turn-past = ap (λ (i : ℕ). stopped k (link n k words) i .past) (sym one) ∙ next-past (T .desk .sound) p (take left found) (turn-left h .some′) ∙ ap suc (T .past) ∙ one
+
+-- ---- the same with the number of columns by name, as the code has it
+module _ {n k : ℕ} {words : List ℕ} {p : ℕ} (c : ℕ) (place : c ≡ k + p) where
+  pub turn-at : Sound n k words → {s rows : List ℕ} {m : ℕ} {columns table model found : List ℕ} {left : ℕ} (area : List ℕ) → Desk n k words s rows m columns c table
+      → wordsIn s m ≡ stopped k (link n k words) p .S → columnsIn columns c ≡ stopped k (link n k words) p .E → stopped k (link n k words) p .past ≡ p
+      → Modelled n k words s m columns c model → left ≡ foundLength (counterexample k (link n k words) (columnsIn columns c) (wordsIn s m))
+      → found ≡ foundPut (counterexample k (link n k words) (columnsIn columns c) (wordsIn s m)) area → 96 ≤ length area
+      → Turn n k words p s rows m columns table model found left
+  turn-at sound area D S E past K l f room = turn-made sound area (rw place at D) S (rw place at E) past (rw place at K) (rw place at l) (rw place at f) room

@@ -18,7 +18,8 @@ ghost use Rattle.learning.specs.Start.{Ones};
 ghost use Rattle.learning.specs.Modelled.{Modelled};
 ghost use Rattle.learning.specs.Pairs.{foundLength, foundPut};
 ghost use Rattle.rules.specs.Closing.{Shut};
-ghost use Rattle.rules.specs.Links.{counterexample};
+ghost use Rattle.rules.specs.Links.{counterexample, stopped};
+ghost use Rattle.learning.specs.Turns.{Turn};
 use crate::store::copy_word;
 
 // The answer to `w` with its first `i` letters replaced by the word of S for `state`.
@@ -178,4 +179,68 @@ pub fn conclude(
 {
     crate::closing::conjecture(table, rows, m, k, c, model);
     crate::search::difference(words, n, model, m, k, found)
+}
+
+// Where the rounds stop: the words of S, the rounds past, and the letters of the counterexample that is left, 0 where there is none.
+pub struct Stop {
+    pub words: usize,
+    pub past: usize,
+    pub left: usize,
+}
+
+// Rounds until no counterexample exists or `most` are past. The area's table is all zero at first.
+pub fn rounds(
+    words: &[u16],
+    n: usize,
+    k: usize,
+    most: usize,
+    table: &mut [u8],
+    s: &mut [u8],
+    rows: &mut [usize; 48],
+    columns: &mut [u8],
+    model: &mut [u16],
+    found: &mut [u8],
+    word: &mut [u8],
+) -> Stop
+    requires { ⌜ Sound n k (now words) ⌝ }
+    requires { ⌜ (2304 ≤ length (now s)) × (length (now rows) ≡ 48) × (5546 ≤ length (now columns)) × (34043 ≤ length (now table)) × (141 ≤ length (now word)) × (576 ≤ length (now model)) × (96 ≤ length (now found)) ⌝ }
+    requires { ⌜ ((i : ℕ) → i < 34043 → getD (now table) i 0 ≡ 0) ⌝ }
+    ensures { λ x. ⌜ Turn n k (now (words .entry)) (x .past) (now (s .exit)) (now (rows .exit)) (x .words) (now (columns .exit)) (now (table .exit)) (now (model .exit)) (now (found .exit)) (x .left) ⌝ }
+    ensures { λ x. ⌜ stopped k (link n k (now (words .entry))) most ≡ stopped k (link n k (now (words .entry))) (x .past) ⌝ }
+    ensures { λ _. ⌜ Beyond 34043 (now (table .entry)) (now (table .exit)) ⌝ }
+{
+    let mut m = begin(words, n, k, table, s, rows, columns, word);
+    let mut left = conclude(words, n, k, table, s, rows, m, columns, k, model, found);
+    let mut past: usize = 0;
+    while past < most {
+        if left == 0 {
+            return Stop {
+                words: m,
+                past: past,
+                left: left,
+            };
+        }
+        let c = k + past;
+        m = round(
+            words,
+            n,
+            k,
+            table,
+            s,
+            rows,
+            m,
+            columns,
+            c,
+            model,
+            &found[..left],
+            word,
+        );
+        past += 1;
+        left = conclude(words, n, k, table, s, rows, m, columns, c + 1, model, found);
+    }
+    Stop {
+        words: m,
+        past: past,
+        left: left,
+    }
 }
