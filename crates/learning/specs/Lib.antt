@@ -8,3 +8,4 @@ pub mod RoundLaws
 pub mod Queue
 pub mod Pairs
 pub mod Listing
+pub mod Sheet

@@ -25,3 +25,5 @@ pub mod Links
 pub mod ByHand
 pub mod SheetLaws
 pub mod Alone
+pub mod SameNumbering
+pub mod Records
