@@ -2,12 +2,12 @@
 use mathlib.Core.Path.{_≡_, refl, sym, ap, ap₂, _∙_, subst}
 use mathlib.Core.Bool.{Bool, true, false}
 use mathlib.Core.List.{List, [], _∷_, _++_, map, append-assoc}
-use Prim.Native.Nat.{ℕ, zero, suc, _+_, _*_, _/_, _%_, _≤_, _<_}
+use Prim.Native.Nat.{ℕ, suc, _+_, _*_, _/_, _%_, _≤_, _<_}
 use native.Mathlib.Nat.{div-lt-iff-lt-mul, suc-mul, mul-le-mul-right}
 use native.Mathlib.Omega.{arith}
 use lib.ListN.{length, getD, take, length-append, length-map, length-take}
 use lib.Seq.{getD-take, length-take-le}
-use lib.Arith.{digits-lt}
+use lib.Arith.{digits-lt, digits-div, digits-mod}
 use lib.Dec.{eqb, ltb}
 use Rattle.rules.specs.Tests.{lt-yes, lt-no}
 use Rattle.rules.specs.Words.{Word}
@@ -16,9 +16,9 @@ use Rattle.rules.specs.Search.{Entry, walk}
 use Rattle.rules.specs.Machine.{Machine, Complete, lent, ask}
 use Rattle.rules.specs.Table.{from, conjecture}
 use Rattle.rules.specs.Closing.{Words}
-use Rattle.rules.specs.FromLaws.{map-from-length}
+use Rattle.rules.specs.FromLaws.{map-from-length, map-from-at}
 use Rattle.rules.specs.Rounds.{Stop}
-use Rattle.rules.specs.Areas.{put, put-put}
+use Rattle.rules.specs.Areas.{put, put-put, put-in, put-length}
 use Rattle.rules.specs.Sheets.{PH, AW, CW, SM, Proof, proofBytes, rowBytes, wordBytes, wordsBytes, wordsOf}
 use Rattle.rules.specs.SheetLaws.{rows-length, room}
 use Rattle.rules.specs.Records.{words-few, words-more-length, put-words-more}
@@ -63,6 +63,46 @@ unfolding sheetOf finished
 finished-is k M C x E S pos wholeM whole columns words A =
     sheet-same k M C (conjecture (ask M) E S) E pos wholeM whole A
     ∙ ap₂ (λ (E′ S′ : List Word). sheetOf k M (conjecture (ask M) E′ S′) E′) (sym columns) (sym words)
+
+-- words that were put for a machine lend it, at its states and letters
+pub lent-agrees : (m k : ℕ) (K : Machine) (area : List ℕ) → K .states ≡ m → m * k ≤ length area → ((s a : ℕ) → s < m → a < k → K .out s a < 256)
+    → Agrees k (link m k (put 0 (wordsOf 256 k K) area)) K
+unfolding lent wordsOf
+lent-agrees m k K area states fits bytes = record {
+  states = sym states;
+  next = λ s a hs ha. let b = bytes s a hs ha in let w = word s a hs ha in omega arith;
+  out = λ s a hs ha. let b = bytes s a hs ha in let w = word s a hs ha in omega arith;
+}
+  where
+    all : ℕ → ℕ
+    all i = 256 * K .next (i / k) (i % k) + K .out (i / k) (i % k)
+
+    word : (s a : ℕ) → s < m → a < k → getD (put 0 (wordsOf 256 k K) area) (s * k + a) 0 ≡ 256 * K .next s a + K .out s a
+    word s a hs ha =
+        let i = s * k + a in
+        let low : i < K .states * k = rw states (digits-lt hs ha) in
+        let n = map-from-length all 0 (K .states * k) in
+        let z : 0 + i ≡ i = omega arith in
+        let size : K .states * k ≡ m * k = ap (λ (x : ℕ). x * k) states in
+        ap (λ (j : ℕ). getD (put 0 (wordsOf 256 k K) area) j 0) (sym z)
+        ∙ put-in 0 (wordsOf 256 k K) area (omega arith) i (omega arith)
+        ∙ map-from-at all 0 (K .states * k) i 0 low
+        ∙ ap all z
+        ∙ ap₂ (λ (x y : ℕ). 256 * K .next x y + K .out x y) (digits-div s ha) (digits-mod s ha)
+
+pub lent-steps : (m k : ℕ) (K : Machine) (area : List ℕ) → Complete k K → K .states ≡ m → m * k ≤ length area → ((s a : ℕ) → s < m → a < k → K .out s a < 256)
+    → Steps m k (put 0 (wordsOf 256 k K) area)
+unfolding lent wordsOf
+lent-steps m k K area whole states fits bytes =
+    let A = lent-agrees m k K area states fits bytes in
+    let n = map-from-length (λ (i : ℕ). 256 * K .next (i / k) (i % k) + K .out (i / k) (i % k)) 0 (K .states * k) in
+    let size : K .states * k ≡ m * k = ap (λ (x : ℕ). x * k) states in
+    let long = put-length 0 (wordsOf 256 k K) area (omega arith) in
+    record {
+      some = omega (arith, whole .0);
+      long = omega arith;
+      next = λ s a hs ha. let low = whole .1 s a (omega arith) ha in omega (arith, A .next s a hs ha);
+    }
 
 -- ---- the model's states, listed by their least words
 pub record Numbers (m k : ℕ) (model states : List ℕ) (count : ℕ) : Type 0 where
@@ -265,10 +305,10 @@ module _ (k : ℕ) (M C : Machine) (E : List Word) (old : List ℕ) where
 
   -- what is written next joins what was written
   next-part : (x y now : List ℕ) (end : ℕ) → end ≡ length x → now ≡ put 0 x old → length x + length y ≤ length old → put end y now ≡ put 0 (x ++ y) old
-  next-part x y now end e is fits = ap₂ (λ (i : ℕ) (l : List ℕ). put i y l) (e ∙ zero) is ∙ put-put 0 x y old (omega arith)
+  next-part x y now end e is fits = ap₂ (λ (i : ℕ) (l : List ℕ). put i y l) (e ∙ start) is ∙ put-put 0 x y old (omega arith)
     where
-      zero : length x ≡ 0 + length x
-      zero = omega arith
+      start : length x ≡ 0 + length x
+      start = omega arith
 
   module _ (rows words columns : ℕ) (rows-end : rows ≡ 6 + length (modelBytes k C)) (words-end : words ≡ rows + length reachBytes) (columns-end : columns ≡ words + length columnBytes)
       (fits : columns + length mapBytes ≤ length old) where
