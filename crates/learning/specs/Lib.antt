@@ -16,3 +16,4 @@ pub mod Demand2
 pub mod Start
 pub mod Modelled
 pub mod Turns
+pub mod Sheet
