@@ -1,6 +1,7 @@
 //! Every answer and every lent area of the proved program held against this program's own.
 
 pub mod case;
+mod edges;
 mod made;
 
 use case::{Case, Operation, ANSWER_HEAD};

@@ -1,6 +1,8 @@
-//! The cases that are compared: every small damage of M1's sheets, and random ones of generated machines.
+//! The cases that are compared: every small damage of M1's sheets, the paper's limits, and random damages of
+//! the sheets of generated machines.
 
 use super::case::Case;
+use super::edges;
 use crate::cases;
 use crate::generator::{self, Damage, Kind, Rng};
 use crate::learner::{self, Answer, MAX_ROUNDS, TABLE_AREA};
@@ -8,18 +10,19 @@ use crate::machine::{OwnedMachine, MAX_STATES};
 use crate::sheets::{self, MACHINE_SHEET_AREA, PROOF_SHEET_AREA};
 
 /// Word areas about the 576 words that the reader asks for.
-const WORD_AREAS: [u16; 5] = [0, 575, 576, 577, 600];
+pub const WORD_AREAS: [u16; 5] = [0, 575, 576, 577, 600];
 /// Sheet areas about the 1,252 bytes that the writer asks for.
-const SHEET_AREAS: [u16; 5] = [0, 1_251, 1_252, 1_253, 2_000];
+pub const SHEET_AREAS: [u16; 5] = [0, 1_251, 1_252, 1_253, 2_000];
 /// Values about the ranges of n and k, and the largest that a case can have.
 const COUNTS: [u16; 8] = [0, 1, 12, 13, 48, 49, 256, u16::MAX];
 /// How often each sheet of a generated machine is damaged.
 const DAMAGES: usize = 12;
 
-/// Makes every case, in an order that the seed fixes: those of M1, then those of so many machines.
+/// Makes every case: those of M1 and of the limits, then those of so many machines, which the seed fixes.
 pub fn make(seed: u64, count: usize, give: &mut impl FnMut(Case)) {
     let mut rng = Rng::new(seed);
     m1_cases(give);
+    edges::make(give);
     for number in 0..count {
         let kind = Kind::ALL[number % Kind::ALL.len()];
         let machine = generator::machine(kind, &mut rng);
