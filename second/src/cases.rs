@@ -37,6 +37,16 @@ fn bytes(notation: &str) -> Vec<u8> {
     result
 }
 
+/// M1's machine sheet.
+pub(crate) fn m1() -> Vec<u8> {
+    bytes(M1)
+}
+
+/// M1's proof sheet.
+pub(crate) fn m1_proof() -> Vec<u8> {
+    bytes(M1_PROOF)
+}
+
 /// The M1 proof sheet with one piece of it, which must stand there, written otherwise.
 fn proof_with(piece: &str, otherwise: &str) -> Vec<u8> {
     assert_eq!(M1_PROOF.matches(piece).count(), 1, "one {piece}");

@@ -3,6 +3,7 @@
 
 pub mod cases;
 pub mod checker;
+pub mod compare;
 pub mod generator;
 pub mod learner;
 pub mod machine;

@@ -1,8 +1,11 @@
-//! The program: the paper's cases, self checks over generated machines, and the paper's `learn`.
+//! The program: the paper's cases, self checks over generated machines, the comparison with the proved
+//! program, and the paper's `learn`.
 
+use second::compare::case::Operation;
+use second::compare::{Compared, Difference};
 use second::generator::Kind;
 use second::self_check::{Answers, Totals};
-use second::{cases, program, self_check};
+use second::{cases, compare, program, self_check};
 use std::fmt::Write as _;
 use std::io::{self, Read, Write as _};
 use std::process::ExitCode;
@@ -12,6 +15,9 @@ second: an independent learner of Mealy machines, to be compared with another on
 
 second cases              run every case of the paper, one line each
 second random SEED COUNT  run self checks over COUNT machines generated from SEED
+second compare SEED COUNT PROGRAM..
+                          hold every answer of the proved program, run by the words PROGRAM.., against
+                          this program's own: over M1's sheets and COUNT machines generated from SEED
 second learn              read a machine sheet on standard input, print its model or refusal
 second --help             print this
 ";
@@ -45,6 +51,10 @@ fn command(arguments: &[String]) -> Result<Outcome, String> {
         ["cases"] => Ok(run_cases()),
         ["random", seed, count] => run_random(number("SEED", seed)?, number("COUNT", count)?),
         ["random", ..] => Err("random takes a SEED and a COUNT".to_string()),
+        ["compare", seed, count, ref program @ ..] if !program.is_empty() => {
+            run_compare(number("SEED", seed)?, number("COUNT", count)?, program)
+        }
+        ["compare", ..] => Err("compare takes a SEED, a COUNT and a PROGRAM".to_string()),
         ["learn"] => run_learn(),
         ["cases" | "learn" | "--help" | "-h", ..] => {
             Err(format!("{} takes no further argument", arguments[0]))
@@ -64,6 +74,11 @@ fn number(name: &str, given: &str) -> Result<u64, String> {
     given
         .parse()
         .map_err(|_| format!("{name} is not a number from 0 to {}: {given}", u64::MAX))
+}
+
+/// A count of machines to be generated.
+fn machines(count: u64) -> Result<usize, String> {
+    usize::try_from(count).map_err(|_| "COUNT is too large".to_string())
 }
 
 fn print(outcome: &Outcome) -> ExitCode {
@@ -112,9 +127,8 @@ fn shortened(text: &str) -> String {
 }
 
 fn run_random(seed: u64, count: u64) -> Result<Outcome, String> {
-    let count = usize::try_from(count).map_err(|_| "COUNT is too large".to_string())?;
-    Ok(match self_check::run(seed, count) {
-        Ok(totals) => right(totals_text(&totals, count)),
+    Ok(match self_check::run(seed, machines(count)?) {
+        Ok(totals) => right(totals_text(&totals)),
         Err(wrong) => Outcome {
             text: format!("WRONG  seed {seed}, {wrong}\n"),
             is_right: false,
@@ -122,7 +136,7 @@ fn run_random(seed: u64, count: u64) -> Result<Outcome, String> {
     })
 }
 
-fn totals_text(totals: &Totals, count: usize) -> String {
+fn totals_text(totals: &Totals) -> String {
     let mut text = String::new();
     let mut all = Answers::default();
     for (kind, answers) in Kind::ALL.iter().zip(&totals.by_kind) {
@@ -155,7 +169,7 @@ fn totals_text(totals: &Totals, count: usize) -> String {
             &totals.other_proof_sheets,
         ),
     );
-    line(&mut text, &format!("{count} machines, 0 wrong"));
+    line(&mut text, &format!("{} machines, 0 wrong", all.machines));
     text
 }
 
@@ -176,6 +190,45 @@ fn sheets_text(name: &str, counts: &[usize]) -> String {
             write!(text, ", {count} refused {number}").expect("a string takes everything");
         }
     }
+    text
+}
+
+fn run_compare(seed: u64, count: u64, program: &[&str]) -> Result<Outcome, String> {
+    let compared = compare::run(seed, machines(count)?, program)?;
+    Ok(Outcome {
+        text: compared_text(&compared),
+        is_right: compared.is_right(),
+    })
+}
+
+fn compared_text(compared: &Compared) -> String {
+    let mut text = String::new();
+    for operation in Operation::ALL {
+        let outcomes = compared.by_outcome.iter();
+        let met: Vec<String> = outcomes
+            .filter(|((of, _), _)| *of == operation)
+            .map(|((_, outcome), count)| format!("{count} {outcome}"))
+            .collect();
+        line(
+            &mut text,
+            &format!("{}: {}", operation.name(), met.join(", ")),
+        );
+    }
+    for Difference {
+        case,
+        expected,
+        found,
+    } in &compared.differences
+    {
+        line(&mut text, &format!("DIFFERS  {case:?}"));
+        line(&mut text, &format!("    expected {expected:?}"));
+        line(&mut text, &format!("    found    {found:?}"));
+    }
+    if let Some(why) = &compared.stopped {
+        line(&mut text, &format!("WRONG  {why}"));
+    }
+    let Compared { cases, differ, .. } = compared;
+    line(&mut text, &format!("{cases} cases, {differ} differ"));
     text
 }
 

@@ -67,15 +67,28 @@ fn the_program_runs_its_cases() {
     assert!(second(&["--help"]).0);
 }
 
+/// Every program that is found here answers nothing, or something else.
+#[test]
+fn a_program_that_answers_otherwise_is_found_out() {
+    for program in ["true", "cat"] {
+        let (success, printed, _) = second(&["compare", "1", "1", program]);
+        assert!(!success && printed.contains("WRONG  there is no answer to "));
+    }
+    assert!(second(&["compare", "1", "1", "cat"]).1.contains("DIFFERS"));
+}
+
 #[test]
 fn bad_use_gives_one_line_and_fails() {
-    let bad_uses: [&[&str]; 6] = [
+    let bad_uses: [&[&str]; 9] = [
         &[],
         &["unknown"],
         &["cases", "more"],
         &["random", "1"],
         &["random", "1", "many"],
         &["random", "-1", "5"],
+        &["compare", "1", "1"],
+        &["compare", "1", "many", "cat"],
+        &["compare", "1", "1", "./no such program"],
     ];
     for arguments in bad_uses {
         let (success, printed, complaint) = second(arguments);

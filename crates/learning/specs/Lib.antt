@@ -17,3 +17,4 @@ pub mod Start
 pub mod Modelled
 pub mod Turns
 pub mod LearnLaws
+pub mod Sheet

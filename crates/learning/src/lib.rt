@@ -1,5 +1,6 @@
 // The learning part.
 pub mod closing;
+pub mod finish;
 pub mod records;
 pub mod rounds;
 pub mod search;

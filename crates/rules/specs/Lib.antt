@@ -33,3 +33,5 @@ pub mod ProofLength
 pub mod Differs
 pub mod Listed
 pub mod SameDifference
+pub mod SameNumbering
+pub mod Records

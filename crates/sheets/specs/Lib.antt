@@ -19,4 +19,5 @@ pub mod ProofCases
 pub mod Seen
 pub mod CheckerLaws
 pub mod SmallestSheets
+pub mod SeenLaws
 pub mod Demand3

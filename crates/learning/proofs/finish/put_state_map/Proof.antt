@@ -1,0 +1,69 @@
+use mathlib.Core.List.{map}
+use Rattle.rules.specs.Areas.{put}
+use Rattle.rules.specs.Table.{from}
+use Rattle.rules.specs.Machine.{lent}
+use Rattle.machine.specs.Lent.{link}
+use Rattle.machine.specs.LentLaws.{sound-steps, steps-complete}
+use Rattle.learning.specs.Store.{stored}
+use Rattle.learning.specs.Sheet.{mapped, numbered-kept, numbered-few, map-put}
+use native.Mathlib.Omega.{arith}
+use mathlib.Core.Path.{ap, _∙_}
+use Prim.Native.Nat.{_+_, _-_}
+use lib.ListN.{take}
+use borrow.Author.Needs.{needs}
+use Rattle.learning.proofs.finish.put_state_map.Statement.{statement}
+use Rattle.learning.proofs.finish.put_state_map.Tie as tie
+
+slice-aggregate-number : tie.Need-slice-aggregate-number
+slice-aggregate-number c = search needs
+
+number-requires : tie.Need-number-requires
+number-requires c κs = search needs
+
+put-mark-requires : tie.Need-put-mark-requires
+put-mark-requires c κs = search needs
+
+add-put-map : tie.Need-add-put-map
+add-put-map c = search needs
+
+slice-aggregate-put-map : tie.Need-slice-aggregate-put-map
+slice-aggregate-put-map c = search needs
+
+put-map-requires : tie.Need-put-map-requires
+unfolding lent
+put-map-requires c κs = let whole = steps-complete (sound-steps (c .before .before .before .before .before .before .before .before .before .before .before .before .before .before .before .pre .0)) in let N = c .before .before .before .before .before .before .before .before .before .number .ensures in
+    (c .before .before .before .before .before .before .before .before .before .before .before .before .before .before .before .pre .1 .0, ((omega (arith, numbered-few whole N, c .before .before .before .before .before .before .before .before .before .before .before .before .before .before .before .pre .0 .n-high), N .size, numbered-kept whole N), search needs))
+
+add-result : tie.Need-add-result
+add-result c = search needs
+
+add-result-2 : tie.Need-add-result-2
+add-result-2 c = search needs
+
+same-length : tie.Need-same-length
+same-length c = search needs
+
+returns : tie.Need-returns
+unfolding lent
+returns c = let a = c .before .before .before .before .before .before .before .before .before .before .before .before .before .before .before .before .before .before .args in let N = c .before .before .before .before .before .before .before .before .before .before .before .before .number .ensures in
+    let C = link (a .m) (a .k) (a .model .now) in (
+      omega arith,
+      c .before .before .put-map .ensures
+          ∙ ap (put (a .at + 2) (map (mapped (a .k) C (take (c .before .before .before .before .before .before .before .before .before .before .before .before .number .result) (c .before .before .before .before .before .before .before .before .before .before .before .before .number .last .1 .1 .1 .0)) (stored 48 (c .before .before .before .before .before .before .before .before .before .before .before .before .number .last .1 .1 .1 .1 .0) (c .before .before .before .before .before .before .before .before .before .before .before .before .number .result))) (from 0 (a .n)))) (c .before .before .before .before .before .before .before .before .put-mark .ensures)
+          ∙ map-put (a .k) (link (a .n) (a .k) (a .words .now)) C (a .at) (a .sheet .now) N (search needs),
+    )
+
+pub put-state-map-spec : {M : Type 1} → statement M
+put-state-map-spec =
+    tie.close
+    (tie.spec
+    slice-aggregate-number
+    number-requires
+    put-mark-requires
+    add-put-map
+    slice-aggregate-put-map
+    put-map-requires
+    add-result
+    add-result-2
+    same-length
+    returns)
