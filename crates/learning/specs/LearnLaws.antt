@@ -4,7 +4,7 @@ use mathlib.Core.Logic.{_⊎_, inl, inr}
 use mathlib.Core.Bool.{Bool, true, false, _&&_}
 use mathlib.Core.Option.{Option, none, some}
 use mathlib.Core.List.{List, [], _∷_, _++_, map}
-use Prim.Native.Nat.{ℕ, _+_, _*_, _-_, _/_, _%_, _≤_, _<_}
+use Prim.Native.Nat.{ℕ, zero, suc, _+_, _*_, _-_, _/_, _%_, _≤_, _<_}
 use native.Mathlib.Nat.{div-add-mod', mod-lt}
 use native.Mathlib.Decide.{decLt}
 use native.Mathlib.Omega.{arith}
@@ -13,7 +13,7 @@ use lib.Seq.{ext-getD, getD-append-add, getD-drop}
 use lib.Dec.{ltb}
 use Rattle.rules.specs.Tests.{outcome, lt-yes, lt-no, ltb-yes, ltb-no}
 use Rattle.rules.specs.Words.{Word}
-use Rattle.rules.specs.Areas.{over}
+use Rattle.rules.specs.Areas.{over, zeros}
 use Rattle.rules.specs.Machine.{Machine, lent, ask}
 use Rattle.rules.specs.Table.{from, row}
 use Rattle.rules.specs.FromLaws.{map-from-length, map-from-at}
@@ -96,3 +96,39 @@ module _ (k : ℕ) (M : Machine) (x : Stop) (old new : List ℕ) (H : Holds 59 3
   pub table-is : 34043 ≤ length old → Beyond 34043 old new → new ≡ over (tableBytes k M x) old
   unfolding tableBytes
   table-is room B = area-is 34043 (tableByte k M x) old new room cell-byte B
+
+-- ---- zeros
+pub zeros-from : (i n : ℕ) → map (λ (j : ℕ). 0) (from i n) ≡ zeros n
+unfolding from zeros
+zeros-from i zero = refl
+zeros-from i (suc n) = ap {B = List ℕ} (λ (l : List ℕ). 0 ∷ l) (zeros-from (suc i) n)
+
+pub zeroed : (size i : ℕ) (area : List ℕ) → i < size → getD (over (zeros size) area) i 0 ≡ 0
+unfolding over
+zeroed size i area h =
+    let n : length (zeros size) ≡ size = ap length (sym (zeros-from 0 size)) ∙ map-from-length (λ (j : ℕ). 0) 0 size in
+    List·getD-append (zeros size) (drop (length (zeros size)) area) 0 i (omega arith) ∙ ap (λ (l : List ℕ). getD l i 0) (sym (zeros-from 0 size)) ∙ map-from-at (λ (j : ℕ). 0) 0 size i 0 h
+
+pub zeroed-beyond : (size : ℕ) (area : List ℕ) → size ≤ length area → Beyond size area (over (zeros size) area)
+unfolding over
+zeroed-beyond size area room = record { long = whole; rest = rest }
+  where
+    n : length (zeros size) ≡ size
+    n = ap length (sym (zeros-from 0 size)) ∙ map-from-length (λ (j : ℕ). 0) 0 size
+
+    whole : length (zeros size ++ drop (length (zeros size)) area) ≡ length area
+    whole = length-append (zeros size) (drop (length (zeros size)) area) ∙ omega (arith, n, length-drop (length (zeros size)) area)
+
+    rest : (i : ℕ) → size ≤ i → getD (zeros size ++ drop (length (zeros size)) area) i 0 ≡ getD area i 0
+    rest i h =
+        let j = i - size in
+        let e : i ≡ length (zeros size) + j = omega (arith, n) in
+        ap (λ (y : ℕ). getD (zeros size ++ drop (length (zeros size)) area) y 0) e ∙ getD-append-add (zeros size) (drop (length (zeros size)) area) j 0
+        ∙ getD-drop (length (zeros size)) area j 0 ∙ ap (λ (y : ℕ). getD area y 0) (sym e)
+
+-- zeros over an area whose rest stayed
+pub zeros-over : (size : ℕ) (old new : List ℕ) → size ≤ length old → Beyond size old new → over (zeros size) new ≡ over (zeros size) old
+zeros-over size old new room B =
+    let z = zeroed-beyond size new (omega (arith, B .long)) in
+    area-is size (λ (j : ℕ). 0) old (over (zeros size) new) room (λ i h. zeroed size i new h) (record { long = z .long ∙ B .long; rest = λ i h. z .rest i h ∙ B .rest i h })
+    ∙ ap (λ (l : List ℕ). over l old) (zeros-from 0 size)

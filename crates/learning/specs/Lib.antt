@@ -18,3 +18,4 @@ pub mod Modelled
 pub mod Turns
 pub mod LearnLaws
 pub mod Sheet
+pub mod Answers
