@@ -19,3 +19,4 @@ pub mod Turns
 pub mod LearnLaws
 pub mod Sheet
 pub mod Answers
+pub mod Leaving

@@ -7,8 +7,14 @@ ghost use Prim.Native.Nat.{ℕ, _+_, _*_, _<_, _≤_};
 ghost use lib.ListN.{length, take};
 ghost use Rattle.rules.specs.Areas.{over, zeros};
 ghost use Rattle.rules.specs.Sheets.{CX, wordBytes};
+ghost use Rattle.rules.specs.Links.{stopped};
 ghost use Rattle.machine.specs.Answers.{checked};
-ghost use Rattle.learning.specs.Learner.{learnCheck};
+ghost use Rattle.machine.specs.Lent.{link};
+ghost use Rattle.learning.specs.Learner.{learnCheck, stopLeaves};
+ghost use Rattle.learning.specs.Learner as learner;
+ghost use Rattle.learning.specs.Answers.{learnt};
+ghost use Rattle.learning.specs.Turns.{Turn};
+ghost use Rattle.learning.specs.Leaving.{left-by};
 
 pub mod closing;
 pub mod finish;
@@ -92,4 +98,103 @@ fn put_counterexample(sheet: &mut [u8], found: &[u8], left: usize)
     records::put_mark(sheet, 0, b"CX");
     sheet[2] = (left % 256) as u8;
     store::put_letters(sheet, 3, &found[..left]);
+}
+
+// What is left where the rounds stopped: 10 if there are more words than the limit, the counterexample if one is left, and else the proof
+// sheet.
+fn leave(
+    words: &[u16],
+    n: usize,
+    k: usize,
+    limit: usize,
+    past: usize,
+    s: &[u8],
+    rows: &[usize],
+    m: usize,
+    columns: &[u8],
+    model: &[u16],
+    found: &[u8],
+    left: usize,
+    table: &mut [u8],
+    sheet: &mut [u8],
+) -> Learnt
+    requires { ⌜ Turn n k (now words) past (now s) (now rows) m (now columns) (now table) (now model) (now found) left ⌝ }
+    requires { ⌜ (96 ≤ length (now found)) × (9368 ≤ length (now sheet)) ⌝ }
+    ensures { λ r. ⌜ left-by (learnt r) (now (table .exit)) (now (sheet .exit)) ≡ stopLeaves k (link n k (now (words .entry))) limit (stopped k (link n k (now (words .entry))) past) (now (table .entry)) (now (sheet .entry)) ⌝ }
+{
+    if limit < m {
+        zero(table, 34043);
+        return Learnt::Refused(Refusal::OverLimit);
+    }
+    let cells = (1 + m * k) * (k + past);
+    if 0 < left {
+        put_counterexample(sheet, found, left);
+        return Learnt::Open {
+            states: m,
+            rounds: past,
+            cells: cells,
+            bytes: 3 + left,
+        };
+    }
+    let bytes = finish::finish(words, n, k, model, m, columns, k + past, sheet);
+    Learnt::Done {
+        states: m,
+        rounds: past,
+        cells: cells,
+        bytes: bytes,
+    }
+}
+
+// Learns the machine's smallest model within `limit` states and `most` rounds. Nothing is written before the checks are passed.
+pub fn learn(
+    words: &[u16],
+    n: usize,
+    k: usize,
+    limit: usize,
+    most: usize,
+    table: &mut [u8],
+    sheet: &mut [u8],
+) -> Learnt
+    ensures { λ r. ⌜ left-by (learnt r) (now (table .exit)) (now (sheet .exit)) ≡ learner.learn n k (now (words .entry)) limit most (now (table .entry)) (now (sheet .entry)) ⌝ }
+{
+    let c = learn_check(words, n, k, limit, most, table, sheet);
+    if let Checked::Refused(r) = c {
+        return Learnt::Refused(r);
+    }
+    zero(table, 34043);
+    let mut s = [0u8; 2304];
+    let mut rows = [0usize; 48];
+    let mut columns = [0u8; 5546];
+    let mut model = [0u16; 576];
+    let mut found = [0u8; 96];
+    let mut word = [0u8; 141];
+    let stop = rounds::rounds(
+        words,
+        n,
+        k,
+        most,
+        table,
+        &mut s,
+        &mut rows,
+        &mut columns,
+        &mut model,
+        &mut found,
+        &mut word,
+    );
+    leave(
+        words,
+        n,
+        k,
+        limit,
+        stop.past,
+        &s,
+        &rows,
+        stop.words,
+        &columns,
+        &model,
+        &found,
+        stop.left,
+        table,
+        sheet,
+    )
 }

@@ -1,0 +1,80 @@
+use mathlib.Core.List.{List}
+use Rattle.rules.specs.Answer.{refused}
+use Rattle.learning.specs.Leaving.{left-by, leave-ten, leave-open, leave-done, leave-cells, leave-short}
+use native.Mathlib.Omega.{arith}
+use mathlib.Core.Path.{_≡_, refl, sym, ap, _∙_}
+use Prim.Native.Nat.{ℕ, _+_, _*_, _-_, _/_, _%_, _<_, _≤_}
+use lib.ListN.{length, getD, take, drop, set}
+use borrow.Author.Needs.{needs}
+use Rattle.learning.proofs.leave.Statement.{statement}
+use Rattle.learning.proofs.leave.Tie as tie
+use Rattle.learning.proofs.leave.Reads as reads
+use Rattle.learning.proofs.leave.Lts as lts
+use Rattle.learning.proofs.finish.finish.Reads as finish-reads
+use Rattle.learning.proofs.put_counterexample.Reads as put-counterexample-reads
+use Rattle.learning.proofs.zero.Reads as zero-reads
+
+zero-requires : tie.Need-zero-requires
+zero-requires c κs = search needs
+
+same-length : tie.Need-same-length
+same-length c = search needs
+
+returns : tie.Need-returns
+returns c = let a = c .before .before .before .before .before .before .before .before .before .before .before .before .before .args in ap (λ (t : List ℕ). left-by (refused 10) t (a .sheet .now)) (c .before .before .zero .ensures) ∙ leave-ten (c .before .before .before .before .before .before .before .before .before .before .before .before .before .pre .0) (a .limit) (a .sheet .now) (c .before .before .before .before .if1 .taken)
+
+mul-cells : tie.Need-mul-cells
+mul-cells c = search needs
+
+add-cells : tie.Need-add-cells
+add-cells c = search needs
+
+add-cells-2 : tie.Need-add-cells-2
+add-cells-2 c = search needs
+
+mul-cells-2 : tie.Need-mul-cells-2
+mul-cells-2 c = let a = c .before .before .before .before .before .before .before .before .before .args in omega (arith, leave-cells (c .before .before .before .before .before .before .before .before .before .pre .0) (a .limit) (a .sheet .now))
+
+put-counterexample-requires : tie.Need-put-counterexample-requires
+put-counterexample-requires c κs = let a = c .before .before .before .before .before .before .before .before .before .before .before .args in let h = leave-short (c .before .before .before .before .before .before .before .before .before .before .before .pre .0) (a .limit) (a .sheet .now) (c .before .if2 .taken) in (omega (arith, h, c .before .before .before .before .before .before .before .before .before .before .before .pre .1 .0), h, c .before .before .before .before .before .before .before .before .before .before .before .pre .1 .1)
+
+add-t28 : tie.Need-add-t28
+add-t28 c = let a = c .before .before .before .before .before .before .before .before .before .before .before .before .before .before .args in omega (arith, leave-short (c .before .before .before .before .before .before .before .before .before .before .before .before .before .before .pre .0) (a .limit) (a .sheet .now) (c .before .before .before .before .if2 .taken))
+
+same-length-2 : tie.Need-same-length-2
+same-length-2 c = search needs
+
+returns-2 : tie.Need-returns-2
+returns-2 c = let a = c .before .before .before .before .before .before .before .before .before .before .before .before .before .before .args in leave-open (c .before .before .before .before .before .before .before .before .before .before .before .before .before .before .pre .0) (a .limit) (a .sheet .now) (c .before .before .before .before .before .if1 .left) (c .before .before .before .before .if2 .taken) _ _ refl (c .before .before .put-counterexample .ensures)
+
+add-finish : tie.Need-add-finish
+add-finish c = search needs
+
+finish-requires : tie.Need-finish-requires
+finish-requires c κs = let T = c .before .before .before .before .before .before .before .before .before .before .before .pre .0 in (T .desk .sound, ((T .modelled .steps, omega (arith, T .desk .few, T .desk .sound .n-high)), (T .desk .columns-kept, T .desk .narrow, c .before .before .before .before .before .before .before .before .before .before .before .pre .1 .1)))
+
+same-length-3 : tie.Need-same-length-3
+same-length-3 c = search needs
+
+returns-3 : tie.Need-returns-3
+returns-3 c = let a = c .before .before .before .before .before .before .before .before .before .before .before .before .before .before .args in leave-done (c .before .before .before .before .before .before .before .before .before .before .before .before .before .before .pre .0) (a .limit) (a .sheet .now) (c .before .before .before .before .before .if1 .left) (omega (arith, c .before .before .before .before .if2 .left)) _ _ (c .before .before .finish .ensures .0) (c .before .before .finish .ensures .1)
+
+pub leave-spec : {M : Type 1} → statement M
+leave-spec =
+    tie.close
+    (tie.spec
+    zero-requires
+    same-length
+    returns
+    mul-cells
+    add-cells
+    add-cells-2
+    mul-cells-2
+    put-counterexample-requires
+    add-t28
+    same-length-2
+    returns-2
+    add-finish
+    finish-requires
+    same-length-3
+    returns-3)
