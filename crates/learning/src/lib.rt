@@ -1,7 +1,7 @@
 // The learning part: the learner of document 01's rules 1 to 6.
 //
-// `learn` takes every input and refuses by the paper's numbers. It follows the rules: the table, the rounds and the stop stand in modules
-// of their own.
+// `learn` takes every input and refuses by the paper's numbers. The rules stand in modules of their own: `table` and `closing` (1 to 4),
+// `search` (5), `rounds` (6), and `finish` for the proof sheet.
 ghost use mathlib.Core.Path.{_≡_};
 ghost use Prim.Native.Nat.{ℕ, _+_, _*_, _<_, _≤_};
 ghost use lib.ListN.{length, take};
@@ -101,7 +101,7 @@ fn put_counterexample(sheet: &mut [u8], found: &[u8], left: usize)
 }
 
 // What is left where the rounds stopped: 10 if there are more words than the limit, the counterexample if one is left, and else the proof
-// sheet.
+// sheet. `s` and `rows` stand here for the contract, which says what the desk holds.
 fn leave(
     words: &[u16],
     n: usize,

@@ -1,8 +1,6 @@
 use mathlib.Core.List.{List}
 use Rattle.machine.specs.Answers.{checked}
 use Rattle.machine.specs.LentLaws.{lent-sound}
-use Rattle.rules.specs.Answer.{gives}
-use Rattle.learning.specs.Learner.{learnCheck}
 use Rattle.learning.specs.Outcomes.{taken}
 use Rattle.learning.specs.LearnLaws.{zeroed, zeroed-beyond}
 use Rattle.learning.specs.Leaving.{learn-refuses, learn-left}
