@@ -18,9 +18,11 @@
 //     3 reads a proof     -         -                  the sheet            m, k, n, c
 //     4 AW record         state     -                  the sheet            the part's length
 //     5 question          n, k      -                  words, and the word  the output
+//     6 learns            n, k,     bytes, up to       words, up to 600     states, rounds, cells, bytes written
+//                         L, R      36000 and 10000
 //
 // An answer is
-//     its kind          1 byte: 0 refused, 1 answered
+//     its kind          1 byte: 0 refused, 1 answered; from the learner 1 for Done and 2 for Open
 //     its numbers       4 numbers: the refusal's number alone, or the values; what is not used is 0
 //     the areas         the bytes of each lent area, whole
 //     the part          the bytes of the part handed back, for the AW record alone
@@ -33,6 +35,7 @@ ghost use lib.ListN.{length};
 
 mod areas;
 
+use learning::Learnt;
 use machine::Answered;
 use machine::refusal;
 use machine::refusal::Refusal;
@@ -119,6 +122,62 @@ fn question(words: &[u16], n: usize, k: usize, word: &[u8]) -> bool {
     }
 }
 
+// Learning, into two areas that are lent as their parts of the buffers.
+fn learn_into(
+    words: &[u16],
+    n: usize,
+    k: usize,
+    limit: usize,
+    most: usize,
+    table: &mut [u8],
+    sheet: &mut [u8],
+    seed: u8,
+) -> bool {
+    areas::fill(table, 0, seed);
+    areas::fill(sheet, 1, seed);
+    let said = match learning::learn(words, n, k, limit, most, table, sheet) {
+        Learnt::Done {
+            states,
+            rounds,
+            cells,
+            bytes,
+        } => say(1, states, rounds, cells, bytes),
+        Learnt::Open {
+            states,
+            rounds,
+            cells,
+            bytes,
+        } => say(2, states, rounds, cells, bytes),
+        Learnt::Refused(r) => say_refused(r),
+    };
+    said && io::write_all(1, table) && io::write_all(1, sheet)
+}
+
+fn learn(words: &[u16], n: usize, k: usize, head: &[u8; 18]) -> bool {
+    let limit = areas::number(head[6], head[7]);
+    let most = areas::number(head[8], head[9]);
+    let size = areas::number(head[10], head[11]);
+    let length = areas::number(head[12], head[13]);
+    if 36000 < size {
+        return false;
+    }
+    if 10000 < length {
+        return false;
+    }
+    let mut table = table_room();
+    let mut sheet = [0u8; 10000];
+    learn_into(
+        words,
+        n,
+        k,
+        limit,
+        most,
+        &mut table[..size],
+        &mut sheet[..length],
+        head[1],
+    )
+}
+
 // Has a case answered that lends a machine: its words are taken from the first input.
 fn answer_words(head: &[u8; 18], bytes: &[u8], second: &[u8], words: &mut [u16]) -> bool
     requires { ⌜ length (now words) * 2 ≤ length (now bytes) ⌝ }
@@ -129,6 +188,7 @@ fn answer_words(head: &[u8; 18], bytes: &[u8], second: &[u8], words: &mut [u16])
     match head[0] {
         2 => write_machine(words, n, k, head[1], areas::number(head[10], head[11])),
         5 => question(words, n, k, second),
+        6 => learn(words, n, k, head),
         _ => false,
     }
 }
@@ -169,7 +229,14 @@ fn answer_inputs(head: &[u8; 18], inputs: &mut [u8], end: usize) -> bool
     answer_parts(head, inputs, end)
 }
 
-// Room for the inputs. The `ensures` gives only the length, which lending a part of it needs.
+// Room for a table. The `ensures` gives only the length, which lending a part of it needs.
+fn table_room() -> [u8; 36000]
+    ensures { λ r. ⌜ 36000 ≡ length r ⌝ }
+{
+    [0; 36000]
+}
+
+// Room for the inputs, likewise.
 fn room() -> [u8; 16384]
     ensures { λ r. ⌜ 16384 ≡ length r ⌝ }
 {
