@@ -16,7 +16,7 @@ use Rattle.rules.specs.Round.{lower-bound}
 use Rattle.rules.specs.Links.{machine-classes}
 use Rattle.machine.specs.Lent.{link, Sound}
 use Rattle.machine.specs.LentLaws.{sound-steps, steps-complete}
-use Rattle.learning.specs.Store.{stored-length}
+use Rattle.areas.specs.Store.{stored-length}
 use Rattle.learning.specs.Grid.{openIn, row-below, Beyond, beyond-then}
 use Rattle.learning.specs.Desk.{Desk, wordsIn, columnsIn, desk-open}
 

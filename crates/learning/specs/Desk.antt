@@ -18,7 +18,7 @@ use Rattle.rules.specs.FromLaws.{map-from-same}
 use Rattle.rules.specs.Sheets.{wordsOf}
 use Rattle.rules.specs.Closing.{Short, Words, Told, Columns, all-snoc, open-on}
 use Rattle.machine.specs.Lent.{link, Sound}
-use Rattle.learning.specs.Store.{slot, stored, stored-length, stored-at, stored-put, Slots, Kept, kept-more, kept-long}
+use Rattle.areas.specs.Store.{slot, stored, stored-length, stored-at, stored-put, Slots, Kept, kept-more, kept-long}
 use Rattle.learning.specs.Grid.{Filled, cellOf, Holds, holds-word, Beyond, filled-beyond, stateIn, state-in, openIn, guessIn, row-stays, row-below}
 
 abbrev pub wordsIn : List ℕ → ℕ → List Word

@@ -19,7 +19,7 @@ use Rattle.rules.specs.Table.{from, row, cells, stateOf, openRow}
 use Rattle.rules.specs.Closing.{cells-get, cells-length}
 use Rattle.rules.specs.FromLaws.{map-from-length, map-from-at}
 use Rattle.rules.specs.Areas.{put, put-inside, put-store, put-length, put-below, put-in, put-above}
-use Rattle.learning.specs.Store.{slot, stored, stored-at, stored-length, stored-more, Kept, kept-long}
+use Rattle.areas.specs.Store.{slot, stored, stored-at, stored-length, stored-more, Kept, kept-long}
 
 -- ---- the cells as they stand
 -- the first c cells of row r

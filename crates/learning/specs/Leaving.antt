@@ -23,7 +23,7 @@ use Rattle.learning.specs.Learner.{Counts, Learnt, done, unfinished, Lef
 use Rattle.learning.specs.Outcomes.{Outcome, over-limit, is-done, is-open, tenLeaves, doneLeaves, openLeaves}
 use Rattle.learning.specs.Outcomes as outcomes
 use Rattle.learning.specs.LearnLaws.{leaves-ten, leaves-done, leaves-open, table-is, zeros-over, zeroed-beyond}
-use Rattle.learning.specs.Store.{stored-length}
+use Rattle.areas.specs.Store.{stored-length}
 use Rattle.learning.specs.Grid.{Holds, Beyond, beyond-same, beyond-then}
 use Rattle.learning.specs.Desk.{wordsIn, columnsIn}
 use Rattle.learning.specs.Sheet.{sheetOf, finished-is}

@@ -1,13 +1,9 @@
 pub mod Learner
-pub mod Store
 pub mod Grid
 pub mod Desk
 pub mod ClosingLaws
 pub mod Cut
 pub mod RoundLaws
-pub mod Queue
-pub mod Pairs
-pub mod Listing
 pub mod Outcomes
 pub mod Proper
 pub mod Bounds

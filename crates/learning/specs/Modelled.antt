@@ -19,9 +19,9 @@ use Rattle.rules.specs.Same.{Same, words-length, read-back, lent-low}
 use Rattle.rules.specs.SameDifference.{difference-same}
 use Rattle.machine.specs.Lent.{link, Steps}
 use Rattle.machine.specs.LentLaws.{sound-steps, steps-complete}
-use Rattle.learning.specs.Store.{stored-length}
+use Rattle.areas.specs.Store.{stored-length}
 use Rattle.learning.specs.Grid.{guessIn}
-use Rattle.learning.specs.Pairs.{Beside}
+use Rattle.search.specs.Pairs.{Beside}
 use Rattle.learning.specs.Desk.{Desk, wordsIn, columnsIn, desk-conjecture}
 
 pub record Modelled (n k : ℕ) (words s : List ℕ) (m : ℕ) (columns : List ℕ) (c : ℕ) (model : List ℕ) : Type 0 where

@@ -14,7 +14,7 @@ use Rattle.rules.specs.Closing.{Told, Shut, Columns, all-snoc, told-more}
 use Rattle.rules.specs.Round.{guess, Opened, round, suffix-long, suffix-below}
 use Rattle.rules.specs.Rounds.{more}
 use Rattle.machine.specs.Lent.{link, Steps}
-use Rattle.learning.specs.Store.{stored-length, stored-put, Kept, kept-more}
+use Rattle.areas.specs.Store.{stored-length, stored-put, Kept, kept-more}
 use Rattle.learning.specs.Grid.{Filled, cellOf, Holds, holds-columns, Beyond, filled-beyond}
 use Rattle.learning.specs.Desk.{Desk, wordsIn, columnsIn, desk-size}
 use Rattle.learning.specs.Cut.{cutIn, cut-is}

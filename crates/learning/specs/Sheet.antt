@@ -27,8 +27,8 @@ use Rattle.rules.specs.NumberingLaws.{letters, order-length}
 use Rattle.rules.specs.SameNumbering.{Agrees, order-few, order-low, words-same, states-same, renumbered-same, stateMap-same}
 use Rattle.machine.specs.Lent.{link, Steps}
 use Rattle.machine.specs.LentLaws.{steps-complete}
-use Rattle.learning.specs.Store.{slot, stored, Slots, Kept, stored-length, stored-at, stored-more, slot-length}
-use Rattle.learning.specs.Listing.{Numbered}
+use Rattle.areas.specs.Store.{slot, stored, Slots, Kept, stored-length, stored-at, stored-more, slot-length}
+use Rattle.search.specs.Listing.{Numbered}
 use Rattle.learning.specs.Learner.{finished}
 
 -- what the sheet says of the machine M, the model C before it was numbered, and the columns E

@@ -15,7 +15,7 @@ use Rattle.rules.specs.FromLaws.{map-from-snoc}
 use Rattle.rules.specs.Closing.{Short, Words, Told, Columns}
 use Rattle.rules.specs.Links.{one-letter-at, one-letter-length, one-letter-long}
 use Rattle.machine.specs.Lent.{link, Sound}
-use Rattle.learning.specs.Store.{stored, stored-length, stored-put, Slots, Kept, kept-more}
+use Rattle.areas.specs.Store.{stored, stored-length, stored-put, Slots, Kept, kept-more}
 use Rattle.learning.specs.Grid.{Filled, cellOf, Holds, holds-columns, Beyond, filled-beyond}
 use Rattle.learning.specs.Desk.{Desk, wordsIn, columnsIn}
 

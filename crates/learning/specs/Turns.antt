@@ -19,11 +19,11 @@ use Rattle.rules.specs.Links.{counterexample, stopped, at-stop, right}
 use Rattle.rules.specs.Advance.{advance, stop-more}
 use Rattle.machine.specs.Lent.{link, Sound}
 use Rattle.machine.specs.LentLaws.{sound-steps, steps-complete}
-use Rattle.learning.specs.Store.{stored-length}
+use Rattle.areas.specs.Store.{stored-length}
 use Rattle.learning.specs.Desk.{Desk, wordsIn, columnsIn}
 use Rattle.learning.specs.Modelled.{Modelled}
 use Rattle.learning.specs.RoundLaws.{Ready}
-use Rattle.learning.specs.Pairs.{foundLength, foundPut}
+use Rattle.search.specs.Pairs.{foundLength, foundPut}
 use Rattle.learning.specs.Proper.{Proper, sound-proper}
 use Rattle.learning.specs.Bounds.{Bounds, stop-bounds}
 

@@ -11,6 +11,7 @@ ghost use Rattle.rules.specs.Closing.{Told, Columns};
 ghost use Rattle.machine.specs.Lent.{link};
 ghost use Rattle.learning.specs.Desk.{wordsIn, columnsIn, Desk};
 ghost use Rattle.learning.specs.Grid.{Beyond, guessIn};
+use areas::store;
 
 // The word of row `r` becomes the word `m` of S, and the rows of its letters are filled.
 pub fn append_row(
@@ -33,7 +34,7 @@ pub fn append_row(
     ensures { λ _. ⌜ Beyond 34043 (now (table .entry)) (now (table .exit)) ⌝ }
 {
     let len = crate::table::row_word(s, m, k, r, word);
-    crate::store::store_word(s, 48, m, &word[..len]);
+    store::store_word(s, 48, m, &word[..len]);
     rows[m] = r;
     let first = 1 + m * k;
     crate::table::fill_rows(

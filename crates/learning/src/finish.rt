@@ -10,8 +10,10 @@ ghost use Rattle.rules.specs.Sheets.{PH, SM, wordBytes, wordsBytes, wordsOf, pr
 ghost use Rattle.rules.specs.Numbering as numbering;
 ghost use Rattle.rules.specs.Numbering.{renumbered, stateMap};
 ghost use Rattle.machine.specs.Lent.{link, Steps, Sound};
-ghost use Rattle.learning.specs.Store.{slot, stored, Slots, Kept};
+ghost use Rattle.areas.specs.Store.{slot, stored, Slots, Kept};
 ghost use Rattle.learning.specs.Sheet.{Numbers, wordOf, modelBytes, markOf, mapped, sheetOf};
+use areas::records;
+use areas::store;
 
 // The place of `x` among the first `count` numbers; `count` where it is not there.
 pub fn place(order: &[usize; 48], count: usize, x: usize) -> usize
@@ -82,9 +84,9 @@ pub fn put_record(
     ensures { λ r. ⌜ r ≡ at + (3 + length (slot width (now (store .entry)) j)) ⌝ }
     ensures { λ _. ⌜ now (sheet .exit) ≡ put at (wordBytes (markOf (now (mark .entry))) (slot width (now (store .entry)) j)) (now (sheet .entry)) ⌝ }
 {
-    crate::records::put_mark(sheet, at, mark);
+    records::put_mark(sheet, at, mark);
     sheet[at + 2] = store[j * width];
-    crate::store::copy_word(store, width, j, sheet, at + 3)
+    store::copy_word(store, width, j, sheet, at + 3)
 }
 
 // The records of the first `count` words, one after the other. Answers where they end.
@@ -194,8 +196,8 @@ pub fn put_state_map(
 {
     let mut states = [0usize; 48];
     let mut reach = [0u8; 2304];
-    let found = crate::search::number(words, n, k, &mut states, &mut reach);
-    crate::records::put_mark(sheet, at, b"SM");
+    let found = search::number(words, n, k, &mut states, &mut reach);
+    records::put_mark(sheet, at, b"SM");
     put_map(
         sheet,
         at + 2,
@@ -230,7 +232,7 @@ pub fn put_model(
     let mut numbered = [0u16; 576];
     renumber(model, m, k, order, count, &mut numbered);
     let size = count * k;
-    crate::records::put_rows(sheet, at, &numbered[..size], k, count);
+    records::put_rows(sheet, at, &numbered[..size], k, count);
     at + count * (2 + 2 * k)
 }
 
@@ -240,7 +242,7 @@ pub fn put_head(sheet: &mut [u8], m: usize, k: usize, n: usize, c: usize)
     requires { ⌜ 6 ≤ length (now sheet) ⌝ }
     ensures { λ _. ⌜ now (sheet .exit) ≡ put 0 (PH ++ (m ∷ k ∷ n ∷ c ∷ [])) (now (sheet .entry)) ⌝ }
 {
-    crate::records::put_mark(sheet, 0, b"PH");
+    records::put_mark(sheet, 0, b"PH");
     sheet[2] = (m % 256) as u8;
     sheet[3] = (k % 256) as u8;
     sheet[4] = (n % 256) as u8;
@@ -266,7 +268,7 @@ pub fn finish(
 {
     let mut order = [0usize; 48];
     let mut reach = [0u8; 2304];
-    let count = crate::search::number(model, m, k, &mut order, &mut reach);
+    let count = search::number(model, m, k, &mut order, &mut reach);
     put_head(sheet, count, k, n, c);
     let rows_end = put_model(sheet, 6, model, m, k, &order, count);
     let words_end = put_records(sheet, rows_end, b"AW", &reach, 48, count);

@@ -1,7 +1,7 @@
 // The learning part: the learner of document 01's rules 1 to 6.
 //
 // `learn` takes every input and refuses by the paper's numbers. The rules stand in modules of their own: `table` and `closing` (1 to 4),
-// `search` (5), `rounds` (6), and `finish` for the proof sheet.
+// `rounds` (6), and `finish` for the proof sheet; rule 5 is the search's, which is a crate of its own, since it reads the machine's words.
 ghost use mathlib.Core.Path.{_≡_};
 ghost use Prim.Native.Nat.{ℕ, _+_, _*_, _<_, _≤_};
 ghost use lib.ListN.{length, take};
@@ -18,12 +18,11 @@ ghost use Rattle.learning.specs.Leaving.{left-by};
 
 pub mod closing;
 pub mod finish;
-pub mod records;
 pub mod rounds;
-pub mod search;
-pub mod store;
 pub mod table;
 
+use areas::records;
+use areas::store;
 use machine::Checked;
 use machine::refusal::Refusal;
 

@@ -6,7 +6,7 @@ ghost use lib.ListN.{length, getD, drop};
 ghost use Rattle.rules.specs.Words.{Below};
 ghost use Rattle.rules.specs.Machine.{Machine, lent, ask};
 ghost use Rattle.machine.specs.Lent.{link, Sound, Steps};
-ghost use Rattle.learning.specs.Store.{slot, Kept};
+ghost use Rattle.areas.specs.Store.{slot, Kept};
 ghost use Rattle.learning.specs.Cut.{cutIn};
 ghost use Rattle.learning.specs.Desk.{wordsIn, columnsIn, Desk};
 ghost use Rattle.learning.specs.Grid.{Beyond};
@@ -16,11 +16,12 @@ ghost use Rattle.rules.specs.Table as rules;
 ghost use Rattle.rules.specs.Table.{oneLetter};
 ghost use Rattle.learning.specs.Start.{Ones};
 ghost use Rattle.learning.specs.Modelled.{Modelled};
-ghost use Rattle.learning.specs.Pairs.{foundLength, foundPut};
+ghost use Rattle.search.specs.Pairs.{foundLength, foundPut};
 ghost use Rattle.rules.specs.Closing.{Shut};
 ghost use Rattle.rules.specs.Links.{counterexample, stopped};
 ghost use Rattle.learning.specs.Turns.{Turn};
-use crate::store::copy_word;
+use areas::store;
+use areas::store::copy_word;
 
 // The answer to `w` with its first `i` letters replaced by the word of S for `state`.
 pub fn swapped(
@@ -39,7 +40,7 @@ pub fn swapped(
     ensures { λ x. ⌜ x ≡ ask (link n k (now (words .entry))) (slot 48 (now (s .entry)) state ++ drop i (now (w .entry))) ⌝ }
 {
     let at = copy_word(s, 48, state, word, 0);
-    crate::store::put_letters(word, at, &w[i..]);
+    store::put_letters(word, at, &w[i..]);
     let end = at + (w.len() - i);
     machine::last_output(words, n, k, &word[..end])
 }
@@ -98,7 +99,7 @@ pub fn round(
     ensures { λ _. ⌜ Beyond 34043 (now (table .entry)) (now (table .exit)) ⌝ }
 {
     let from = cut(words, n, k, model, s, m, w, word) + 1;
-    crate::store::store_word(columns, 94, c, &w[from..]);
+    store::store_word(columns, 94, c, &w[from..]);
     crate::table::fill_rows(
         table,
         words,
@@ -124,7 +125,7 @@ pub fn one_letter(columns: &mut [u8], k: usize)
     let mut a: usize = 0;
     while a < k {
         let letter = [(a % 256) as u8; 1];
-        crate::store::store_word(columns, 94, a, &letter);
+        store::store_word(columns, 94, a, &letter);
         a += 1;
     }
 }
@@ -150,7 +151,7 @@ pub fn begin(
 {
     one_letter(columns, k);
     let none = [0u8; 0];
-    crate::store::store_word(s, 48, 0, &none);
+    store::store_word(s, 48, 0, &none);
     rows[0] = 0;
     crate::table::fill_rows(table, words, n, k, s, 1, columns, word, 0, 1 + k, 0, k);
     crate::closing::close(words, n, k, table, s, rows, 1, columns, k, word)
@@ -178,7 +179,7 @@ pub fn conclude(
     ensures { λ _. ⌜ now (found .exit) ≡ foundPut (counterexample k (link n k (now (words .entry))) (columnsIn (now (columns .entry)) c) (wordsIn (now (s .entry)) m)) (now (found .entry)) ⌝ }
 {
     crate::closing::conjecture(table, rows, m, k, c, model);
-    crate::search::difference(words, n, model, m, k, found)
+    search::difference(words, n, model, m, k, found)
 }
 
 // Where the rounds stop: the words of S, the rounds past, and the letters of the counterexample that is left, 0 where there is none.

@@ -10,10 +10,10 @@ ghost use Rattle.rules.specs.Words.{Below};
 ghost use Rattle.rules.specs.Machine.{Machine, lent, ask};
 ghost use Rattle.rules.specs.Table.{row, cells};
 ghost use Rattle.machine.specs.Lent.{link, Sound};
-ghost use Rattle.learning.specs.Store.{slot, stored, Kept};
+ghost use Rattle.areas.specs.Store.{slot, stored, Kept};
 ghost use Rattle.learning.specs.Grid.{rowCells, stateIn, openIn, cellsFrom, cellOf, Filled};
 ghost use Rattle.rules.specs.Tests.{eqs};
-use crate::store::copy_word;
+use areas::store::copy_word;
 
 // The word of row `r` is put to the start of `word`: empty for row 0, and else a word of S and a letter. Answers its length.
 pub fn row_word(s: &[u8], m: usize, k: usize, r: usize, word: &mut [u8]) -> usize

@@ -13,7 +13,7 @@ ghost use Rattle.sheets.specs.Machines.{machineSheet, readMachine, write
 ghost use Rattle.sheets.specs.MachineSteps.{sheetBody};
 ghost use Rattle.sheets.specs.MachineAnswers.{readOf, writtenOf};
 use crate::reading;
-use learning::records;
+use areas::records;
 use machine::Checked;
 use machine::refusal::Refusal;
 

@@ -1,9 +1,5 @@
 use mathlib.Core.Path.{sym}
 use lib.Seq.{length-take-le}
-use native.Mathlib.Omega.{arith}
-use mathlib.Core.Path.{_≡_, refl, sym, ap, _∙_}
-use Prim.Native.Nat.{ℕ, _+_, _*_, _-_, _/_, _%_, _<_, _≤_}
-use lib.ListN.{length, getD, take, drop, set}
 use borrow.Author.Needs.{needs}
 use Rattle.answers.proofs.learn.Statement.{statement}
 use Rattle.answers.proofs.learn.Tie as tie

@@ -5,18 +5,12 @@ use Rattle.learning.specs.Outcomes.{taken}
 use Rattle.learning.specs.LearnLaws.{zeroed, zeroed-beyond}
 use Rattle.learning.specs.Leaving.{learn-refuses, learn-left}
 use native.Mathlib.Omega.{arith}
-use mathlib.Core.Path.{_≡_, refl, sym, ap, _∙_}
-use Prim.Native.Nat.{ℕ, _+_, _*_, _-_, _/_, _%_, _<_, _≤_}
-use lib.ListN.{length, getD, take, drop, set}
+use mathlib.Core.Path.{sym, ap, _∙_}
+use Prim.Native.Nat.{ℕ}
+use lib.ListN.{length, getD}
 use borrow.Author.Needs.{needs}
 use Rattle.learning.proofs.learn.Statement.{statement}
 use Rattle.learning.proofs.learn.Tie as tie
-use Rattle.learning.proofs.learn.Reads as reads
-use Rattle.learning.proofs.learn.Lts as lts
-use Rattle.learning.proofs.learn_check.Reads as learn-check-reads
-use Rattle.learning.proofs.leave.Reads as leave-reads
-use Rattle.learning.proofs.rounds.rounds.Reads as rounds-reads
-use Rattle.learning.proofs.zero.Reads as zero-reads
 
 learn-check-requires : tie.Need-learn-check-requires
 learn-check-requires c κs = search needs

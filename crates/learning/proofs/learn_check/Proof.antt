@@ -1,15 +1,9 @@
 use borrow.Author.Tests.{le-leb, lt-leb}
 use Rattle.learning.specs.Learner as spec
-use native.Mathlib.Omega.{arith}
-use mathlib.Core.Path.{_≡_, refl, sym, ap, _∙_}
-use Prim.Native.Nat.{ℕ, _+_, _*_, _-_, _/_, _%_, _<_, _≤_}
-use lib.ListN.{length, getD, take, drop, set}
+use mathlib.Core.Path.{sym}
 use borrow.Author.Needs.{needs}
 use Rattle.learning.proofs.learn_check.Statement.{statement}
 use Rattle.learning.proofs.learn_check.Tie as tie
-use Rattle.learning.proofs.learn_check.Reads as reads
-use Rattle.learning.proofs.learn_check.Lts as lts
-use Rattle.machine.proofs.check.Reads as check-reads
 
 returns : tie.Need-returns
 unfolding spec.learnCheck

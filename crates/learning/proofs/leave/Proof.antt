@@ -2,17 +2,11 @@ use mathlib.Core.List.{List}
 use Rattle.rules.specs.Answer.{refused}
 use Rattle.learning.specs.Leaving.{left-by, leave-ten, leave-open, leave-done, leave-cells, leave-short}
 use native.Mathlib.Omega.{arith}
-use mathlib.Core.Path.{_≡_, refl, sym, ap, _∙_}
-use Prim.Native.Nat.{ℕ, _+_, _*_, _-_, _/_, _%_, _<_, _≤_}
-use lib.ListN.{length, getD, take, drop, set}
+use mathlib.Core.Path.{refl, ap, _∙_}
+use Prim.Native.Nat.{ℕ}
 use borrow.Author.Needs.{needs}
 use Rattle.learning.proofs.leave.Statement.{statement}
 use Rattle.learning.proofs.leave.Tie as tie
-use Rattle.learning.proofs.leave.Reads as reads
-use Rattle.learning.proofs.leave.Lts as lts
-use Rattle.learning.proofs.finish.finish.Reads as finish-reads
-use Rattle.learning.proofs.put_counterexample.Reads as put-counterexample-reads
-use Rattle.learning.proofs.zero.Reads as zero-reads
 
 zero-requires : tie.Need-zero-requires
 zero-requires c κs = search needs

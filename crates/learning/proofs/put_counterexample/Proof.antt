@@ -1,20 +1,16 @@
 use lib.ListN.{length-set}
-use Rattle.rules.specs.Areas.{put, over, put-length, put-start}
+use Rattle.rules.specs.Areas.{put, put-length, put-start}
 use Rattle.rules.specs.Records.{put-word, word-length}
 use lib.Seq.{length-take-le}
 use mathlib.Core.List.{List}
 use Rattle.rules.specs.Sheets.{CX, wordBytes}
 use native.Mathlib.Omega.{arith}
 use mathlib.Core.Path.{_≡_, refl, sym, ap, _∙_}
-use Prim.Native.Nat.{ℕ, _+_, _*_, _-_, _/_, _%_, _<_, _≤_}
-use lib.ListN.{length, getD, take, drop, set}
+use Prim.Native.Nat.{ℕ, _%_}
+use lib.ListN.{length, take, set}
 use borrow.Author.Needs.{needs}
 use Rattle.learning.proofs.put_counterexample.Statement.{statement}
 use Rattle.learning.proofs.put_counterexample.Tie as tie
-use Rattle.learning.proofs.put_counterexample.Reads as reads
-use Rattle.learning.proofs.put_counterexample.Lts as lts
-use Rattle.learning.proofs.records.put_mark.Reads as put-mark-reads
-use Rattle.learning.proofs.store.put_letters.Reads as put-letters-reads
 
 -- what was written is the record
 wrote : (c : tie.After-put-letters) → let a = c .before .before .before .before .before .before .before .before .before .before .args in c .put-letters .last .0 ≡ put 0 (wordBytes CX (take (a .left) (a .found .now))) (a .sheet .now)

@@ -6,13 +6,11 @@ use Rattle.rules.specs.FromLaws.{put-from-none, put-from-more}
 use Rattle.learning.specs.LearnLaws.{zeros-from}
 use borrow.Author.Needs.{needs}
 use native.Mathlib.Omega.{arith}
-use mathlib.Core.Path.{_≡_, refl, sym, ap, _∙_}
-use Prim.Native.Nat.{ℕ, _+_, _*_, _-_, _/_, _%_, _<_, _≤_}
-use lib.ListN.{length, getD, take, drop, set}
+use mathlib.Core.Path.{_≡_, refl, ap, _∙_}
+use Prim.Native.Nat.{ℕ, _-_, _≤_}
+use lib.ListN.{length}
 use Rattle.learning.proofs.zero.Statement.{statement}
 use Rattle.learning.proofs.zero.Tie as tie
-use Rattle.learning.proofs.zero.Reads as reads
-use Rattle.learning.proofs.zero.Lts as lts
 
 abbrev Inv-loop : tie.InvT-loop
 Inv-loop area₀ count i₀ area i = (i ≤ count) × (length area ≡ length area₀) × (area ≡ put 0 (map (λ (j : ℕ). 0) (from 0 i)) area₀)

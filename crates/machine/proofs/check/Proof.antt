@@ -2,15 +2,10 @@ use native.Mathlib.Nat.{mul-le-mul}
 use borrow.Author.Tests.{le-leb, lt-leb}
 use Rattle.machine.specs.Lent.{lentCheck}
 use native.Mathlib.Omega.{arith}
-use mathlib.Core.Path.{_≡_, refl, sym, ap, _∙_}
-use Prim.Native.Nat.{ℕ, _+_, _*_, _-_, _/_, _%_, _<_, _≤_}
-use lib.ListN.{length, getD, take, drop, set}
+use mathlib.Core.Path.{sym, _∙_}
 use borrow.Author.Needs.{needs}
 use Rattle.machine.proofs.check.Statement.{statement}
 use Rattle.machine.proofs.check.Tie as tie
-use Rattle.machine.proofs.check.Reads as reads
-use Rattle.machine.proofs.check.Lts as lts
-use Rattle.machine.proofs.next_below.Reads as next-below-reads
 
 returns : tie.Need-returns
 unfolding lentCheck

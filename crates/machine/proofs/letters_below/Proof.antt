@@ -4,15 +4,11 @@ use borrow.Author.Tests.{lt-ltb, le-ltb}
 use Rattle.machine.specs.Lent.{lettersBelow}
 use Rattle.machine.specs.LentLaws.{all-passes, all-fails, all-ends}
 use borrow.Author.Needs.{needs}
-use native.Mathlib.Omega.{arith}
-use mathlib.Core.Path.{_≡_, refl, sym, ap, _∙_}
-use Prim.Native.Nat.{ℕ, _+_, _*_, _-_, _/_, _%_, _<_, _≤_}
-use lib.ListN.{length, getD, take, drop, set}
+use mathlib.Core.Path.{_≡_, refl, sym, _∙_}
+use Prim.Native.Nat.{ℕ, _-_, _≤_}
+use lib.ListN.{length, drop}
 use Rattle.machine.proofs.letters_below.Statement.{statement}
 use Rattle.machine.proofs.letters_below.Tie as tie
-use Rattle.machine.proofs.letters_below.Reads as reads
-use Rattle.machine.proofs.letters_below.Lts as lts
-use Rattle.machine.proofs.wide.Reads as wide-reads
 
 abbrev Inv-loop : tie.InvT-loop
 Inv-loop w k i₀ i = (i ≤ length w) × (lettersBelow k w ≡ lettersBelow k (drop i w))

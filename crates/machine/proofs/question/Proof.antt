@@ -2,18 +2,10 @@ use borrow.Author.Tests.{le-leb, lt-leb}
 use Rattle.machine.specs.Lent as spec
 use Rattle.machine.specs.LentLaws.{lent-sound}
 use Rattle.machine.specs.Answers.{checked}
-use native.Mathlib.Omega.{arith}
-use mathlib.Core.Path.{_≡_, refl, sym, ap, _∙_}
-use Prim.Native.Nat.{ℕ, _+_, _*_, _-_, _/_, _%_, _<_, _≤_}
-use lib.ListN.{length, getD, take, drop, set}
+use mathlib.Core.Path.{sym, ap, _∙_}
 use borrow.Author.Needs.{needs}
 use Rattle.machine.proofs.question.Statement.{statement}
 use Rattle.machine.proofs.question.Tie as tie
-use Rattle.machine.proofs.question.Reads as reads
-use Rattle.machine.proofs.question.Lts as lts
-use Rattle.machine.proofs.check.Reads as check-reads
-use Rattle.machine.proofs.last_output.Reads as last-output-reads
-use Rattle.machine.proofs.letters_below.Reads as letters-below-reads
 
 check-requires : tie.Need-check-requires
 check-requires c κs = search needs

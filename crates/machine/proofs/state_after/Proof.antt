@@ -1,20 +1,16 @@
 use lib.Arith.{digits-lt}
-use Rattle.rules.specs.Machine.{Machine, lent}
+use Rattle.rules.specs.Machine.{lent}
 use Rattle.rules.specs.Search.{walk}
 use Rattle.rules.specs.Words.{below-at}
 use Rattle.machine.specs.Lent.{link}
 use Rattle.machine.specs.LentLaws.{letters-below, walk-step, walk-ends}
 use borrow.Author.Needs.{needs}
 use native.Mathlib.Omega.{arith}
-use mathlib.Core.Path.{_≡_, refl, sym, ap, _∙_}
-use Prim.Native.Nat.{ℕ, _+_, _*_, _-_, _/_, _%_, _<_, _≤_}
-use lib.ListN.{length, getD, take, drop, set}
+use mathlib.Core.Path.{_≡_, refl, sym, _∙_}
+use Prim.Native.Nat.{_-_, _<_, _≤_}
+use lib.ListN.{length, drop}
 use Rattle.machine.proofs.state_after.Statement.{statement}
 use Rattle.machine.proofs.state_after.Tie as tie
-use Rattle.machine.proofs.state_after.Reads as reads
-use Rattle.machine.proofs.state_after.Lts as lts
-use Rattle.machine.proofs.next.Reads as next-reads
-use Rattle.machine.proofs.wide.Reads as wide-reads
 
 abbrev Inv-loop : tie.InvT-loop
 Inv-loop words n k w state₀ i₀ state i = (i ≤ length w) × (state < n) × (walk (link n k words .next) 0 w ≡ walk (link n k words .next) state (drop i w))

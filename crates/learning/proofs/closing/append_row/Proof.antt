@@ -1,26 +1,16 @@
-use mathlib.Core.List.{List, _++_, _∷_, []}
-use mathlib.Core.Path.{subst}
+use mathlib.Core.List.{_∷_}
 use lib.Seq.{length-take-le}
-use native.Mathlib.Nat.{mul-le-mul, suc-mul}
 use Rattle.rules.specs.Areas.{put, put-part, put-length}
 use Rattle.rules.specs.Words.{Word}
 use Rattle.rules.specs.Table.{row}
-use Rattle.rules.specs.Machine.{lent, ask}
-use Rattle.machine.specs.Lent.{link}
-use Rattle.learning.specs.Store.{Kept}
-use Rattle.learning.specs.Desk.{Desk, wordsIn, desk-short, desk-size, desk-next, appended-kept, appended}
+use Rattle.learning.specs.Desk.{wordsIn, desk-short, desk-size, desk-next, appended-kept, appended}
 use native.Mathlib.Omega.{arith}
-use mathlib.Core.Path.{_≡_, refl, sym, ap, ap₂, _∙_}
-use Prim.Native.Nat.{ℕ, _+_, _*_, _-_, _/_, _%_, _<_, _≤_}
-use lib.ListN.{length, getD, take, drop, set}
+use mathlib.Core.Path.{_≡_, sym, ap, ap₂, _∙_}
+use Prim.Native.Nat.{_+_, _*_, _≤_}
+use lib.ListN.{length, take}
 use borrow.Author.Needs.{needs}
 use Rattle.learning.proofs.closing.append_row.Statement.{statement}
 use Rattle.learning.proofs.closing.append_row.Tie as tie
-use Rattle.learning.proofs.closing.append_row.Reads as reads
-use Rattle.learning.proofs.closing.append_row.Lts as lts
-use Rattle.learning.proofs.store.store_word.Reads as store-word-reads
-use Rattle.learning.proofs.table.fill_rows.Reads as fill-rows-reads
-use Rattle.learning.proofs.table.row_word.Reads as row-word-reads
 
 -- the row's word stands at the start of the buffer
 spelled : (c : tie.After-row-word) → let a = c .before .before .before .before .before .before .before .before .args in (take (c .row-word .result) (c .row-word .last .1 .1 .1 .1 .0) ≡ row (a .k) (wordsIn (a .s .now) (a .m)) (a .r)) × (c .row-word .result ≤ 47) × (c .row-word .result ≤ length (c .row-word .last .1 .1 .1 .1 .0)) × (141 ≤ length (c .row-word .last .1 .1 .1 .1 .0))

@@ -1,20 +1,16 @@
-use Rattle.rules.specs.Machine.{lent, ask}
+use Rattle.rules.specs.Machine.{ask}
 use Rattle.machine.specs.Lent.{link}
 use Rattle.rules.specs.Table as rules
-use Rattle.learning.specs.Desk.{Desk, wordsIn, columnsIn, desk-size, desk-next, desk-rows, desk-first-open}
-use Rattle.learning.specs.Grid.{beyond-same, openIn}
+use Rattle.learning.specs.Desk.{wordsIn, columnsIn, desk-size, desk-next, desk-rows, desk-first-open}
+use Rattle.learning.specs.Grid.{beyond-same}
 use Rattle.learning.specs.ClosingLaws.{Closing, closing-on, closing-ended, more-states}
 use borrow.Author.Needs.{needs}
 use native.Mathlib.Omega.{arith}
 use mathlib.Core.Path.{_≡_, refl, sym, ap, _∙_}
-use Prim.Native.Nat.{ℕ, _+_, _*_, _-_, _/_, _%_, _<_, _≤_}
-use lib.ListN.{length, getD, take, drop, set}
+use Prim.Native.Nat.{ℕ, _-_, _<_}
+use lib.ListN.{length}
 use Rattle.learning.proofs.closing.close.Statement.{statement}
 use Rattle.learning.proofs.closing.close.Tie as tie
-use Rattle.learning.proofs.closing.close.Reads as reads
-use Rattle.learning.proofs.closing.close.Lts as lts
-use Rattle.learning.proofs.closing.append_row.Reads as append-row-reads
-use Rattle.learning.proofs.table.open_row.Reads as open-row-reads
 
 abbrev Inv-loop : tie.InvT-loop
 Inv-loop words n k table₀ s₀ rows₀ count columns c word₀ m₀ last₀ r₀ table s rows word m last r = (length s ≡ length s₀) × (length word ≡ length word₀) × Closing n k words count s₀ table₀ columns c table s rows m last r

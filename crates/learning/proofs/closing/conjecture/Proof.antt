@@ -1,21 +1,17 @@
-use mathlib.Core.List.{List, map}
+use mathlib.Core.List.{map}
 use lib.ListN.{length-set}
 use native.Mathlib.Nat.{div-lt-iff-lt-mul, mod-lt}
 use Rattle.rules.specs.Areas.{put}
 use Rattle.rules.specs.Table.{from}
 use Rattle.rules.specs.FromLaws.{put-from-none, put-from-more}
-use Rattle.learning.specs.Grid.{stateIn, guessIn, state-in-le}
+use Rattle.learning.specs.Grid.{guessIn, state-in-le}
 use borrow.Author.Needs.{needs}
 use native.Mathlib.Omega.{arith}
-use mathlib.Core.Path.{_≡_, refl, sym, ap, _∙_}
+use mathlib.Core.Path.{_≡_, refl, ap, _∙_}
 use Prim.Native.Nat.{ℕ, _+_, _*_, _-_, _/_, _%_, _<_, _≤_}
-use lib.ListN.{length, getD, take, drop, set}
+use lib.ListN.{length, getD}
 use Rattle.learning.proofs.closing.conjecture.Statement.{statement}
 use Rattle.learning.proofs.closing.conjecture.Tie as tie
-use Rattle.learning.proofs.closing.conjecture.Reads as reads
-use Rattle.learning.proofs.closing.conjecture.Lts as lts
-use Rattle.learning.proofs.table.state_of.Reads as state-of-reads
-use Rattle.machine.proofs.word.Reads as word-reads
 
 abbrev Inv-loop : tie.InvT-loop
 Inv-loop table rows m k c model₀ size i₀ model i = (i ≤ m * k) × (length model ≡ length model₀) × (model ≡ put 0 (map (guessIn 59 table rows m k c) (from 0 i)) model₀)

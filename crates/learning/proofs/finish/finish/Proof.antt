@@ -7,11 +7,11 @@ use Rattle.rules.specs.Sheets.{AW, CW, wordsBytes}
 use Rattle.rules.specs.SheetLaws.{rows-most}
 use Rattle.rules.specs.Machine.{lent}
 use Rattle.machine.specs.Lent.{link}
-use Rattle.learning.specs.Store.{stored, stored-length}
+use Rattle.areas.specs.Store.{stored, stored-length}
 use Rattle.learning.specs.Sheet.{Numbers, numbers, numbers-few, numbers-states, modelBytes, model-length, stored-few, map-length, sheet-length, sheet-written}
 use native.Mathlib.Omega.{arith}
 use mathlib.Core.Path.{_≡_, sym, ap, _∙_}
-use Prim.Native.Nat.{ℕ, _+_, _*_, _-_, _≤_}
+use Prim.Native.Nat.{ℕ, _+_, _*_, _≤_}
 use lib.ListN.{length}
 use borrow.Author.Needs.{needs}
 use Rattle.learning.proofs.finish.finish.Statement.{statement}

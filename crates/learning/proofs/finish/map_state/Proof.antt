@@ -1,6 +1,5 @@
 use Rattle.learning.specs.Sheet.{numbers-few, mapped-here, mapped-none}
 use native.Mathlib.Omega.{arith}
-use Prim.Native.Nat.{_-_}
 use borrow.Author.Needs.{needs}
 use Rattle.learning.proofs.finish.map_state.Statement.{statement}
 use Rattle.learning.proofs.finish.map_state.Tie as tie

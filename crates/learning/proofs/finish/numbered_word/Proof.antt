@@ -3,7 +3,7 @@ use Rattle.rules.specs.Numbering as numbering
 use Rattle.learning.specs.Sheet.{numbers-few, numbers-low, numbers-place-few, numbers-word}
 use native.Mathlib.Omega.{arith}
 use mathlib.Core.Path.{ap, _∙_}
-use Prim.Native.Nat.{ℕ, _+_, _*_, _-_, _/_, _%_, _<_, _≤_}
+use Prim.Native.Nat.{ℕ, _+_, _*_, _/_, _%_, _<_, _≤_}
 use lib.ListN.{length, getD, take}
 use borrow.Author.Needs.{needs}
 use Rattle.learning.proofs.finish.numbered_word.Statement.{statement}

@@ -3,7 +3,7 @@ use lib.ListN.{length-set}
 use Rattle.rules.specs.Records.{put-head}
 use native.Mathlib.Omega.{arith}
 use mathlib.Core.Path.{_≡_, ap, _∙_}
-use Prim.Native.Nat.{ℕ, _-_, _%_, _<_}
+use Prim.Native.Nat.{ℕ, _%_, _<_}
 use lib.ListN.{set}
 use borrow.Author.Needs.{needs}
 use Rattle.learning.proofs.finish.put_head.Statement.{statement}

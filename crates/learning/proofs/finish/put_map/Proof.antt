@@ -4,7 +4,7 @@ use Rattle.rules.specs.Areas.{put}
 use Rattle.rules.specs.Table.{from}
 use Rattle.rules.specs.Records.{put-from-none-at, put-from-at}
 use Rattle.machine.specs.Lent.{link}
-use Rattle.learning.specs.Store.{stored}
+use Rattle.areas.specs.Store.{stored}
 use Rattle.learning.specs.Sheet.{mapped}
 use borrow.Author.Needs.{needs}
 use native.Mathlib.Omega.{arith}

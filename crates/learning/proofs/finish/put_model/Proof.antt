@@ -9,7 +9,7 @@ use Rattle.machine.specs.Lent.{link}
 use Rattle.learning.specs.Sheet.{numbers-few, numbers-size, numbers-states, model-length}
 use native.Mathlib.Omega.{arith}
 use mathlib.Core.Path.{_≡_, sym, ap, _∙_}
-use Prim.Native.Nat.{ℕ, _+_, _*_, _-_, _≤_}
+use Prim.Native.Nat.{ℕ, _+_, _*_, _≤_}
 use lib.ListN.{length, take}
 use borrow.Author.Needs.{needs}
 use Rattle.learning.proofs.finish.put_model.Statement.{statement}

@@ -3,11 +3,11 @@ use lib.ListN.{length-set}
 use Rattle.rules.specs.Areas.{put, put-length}
 use Rattle.rules.specs.Sheets.{wordBytes}
 use Rattle.rules.specs.Records.{word-length, put-word}
-use Rattle.learning.specs.Store.{slot, slot-length}
+use Rattle.areas.specs.Store.{slot, slot-length}
 use Rattle.learning.specs.Sheet.{markOf}
 use native.Mathlib.Omega.{arith}
 use mathlib.Core.Path.{_≡_, refl, sym, ap, _∙_}
-use Prim.Native.Nat.{ℕ, _+_, _*_, _-_}
+use Prim.Native.Nat.{ℕ, _+_, _*_}
 use lib.ListN.{length, getD, set}
 use borrow.Author.Needs.{needs}
 use Rattle.learning.proofs.finish.put_record.Statement.{statement}

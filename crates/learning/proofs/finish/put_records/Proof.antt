@@ -1,6 +1,6 @@
 use Rattle.rules.specs.Areas.{put, put-none}
 use Rattle.rules.specs.Sheets.{wordsBytes}
-use Rattle.learning.specs.Store.{slot, stored}
+use Rattle.areas.specs.Store.{slot, stored}
 use Rattle.learning.specs.Sheet.{markOf, slot-room, record-room, record-ends, record-put}
 use borrow.Author.Needs.{needs}
 use native.Mathlib.Omega.{arith}

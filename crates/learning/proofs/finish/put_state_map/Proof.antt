@@ -4,11 +4,11 @@ use Rattle.rules.specs.Table.{from}
 use Rattle.rules.specs.Machine.{lent}
 use Rattle.machine.specs.Lent.{link}
 use Rattle.machine.specs.LentLaws.{sound-steps, steps-complete}
-use Rattle.learning.specs.Store.{stored}
+use Rattle.areas.specs.Store.{stored}
 use Rattle.learning.specs.Sheet.{mapped, numbered-kept, numbered-few, map-put}
 use native.Mathlib.Omega.{arith}
 use mathlib.Core.Path.{ap, _∙_}
-use Prim.Native.Nat.{_+_, _-_}
+use Prim.Native.Nat.{_+_}
 use lib.ListN.{take}
 use borrow.Author.Needs.{needs}
 use Rattle.learning.proofs.finish.put_state_map.Statement.{statement}

@@ -1,7 +1,7 @@
 use Rattle.rules.specs.Search.{walk}
 use Rattle.machine.specs.Lent.{link}
 use Rattle.machine.specs.LentLaws.{below-letters}
-use Rattle.learning.specs.Store.{slot, kept-room, kept-letters}
+use Rattle.areas.specs.Store.{slot, kept-room, kept-letters}
 use native.Mathlib.Omega.{arith}
 use mathlib.Core.Path.{_≡_, ap, _∙_}
 use Prim.Native.Nat.{ℕ, _+_, _*_, _-_, _<_, _≤_}

@@ -1,29 +1,22 @@
 use mathlib.Core.Path.{subst, ap₂}
-use mathlib.Core.List.{List, [], _∷_}
-use Rattle.rules.specs.Areas.{put}
+use mathlib.Core.List.{[], List, _∷_}
 use Rattle.rules.specs.Words.{Word}
-use Rattle.rules.specs.Machine.{lent, ask}
+use Rattle.rules.specs.Machine.{ask}
 use Rattle.rules.specs.Table as rules
 use Rattle.rules.specs.Closing.{Told, Columns}
 use Rattle.rules.specs.Links.{one-letter-long}
 use Rattle.machine.specs.Lent.{link}
-use Rattle.learning.specs.Store.{Kept}
+use Rattle.areas.specs.Store.{Kept}
 use Rattle.learning.specs.Desk.{Desk, wordsIn, columnsIn}
 use Rattle.learning.specs.Grid.{beyond-then}
-use Rattle.learning.specs.Start.{Ones, first-kept, told-one, start-desk, start-words, start-beyond}
+use Rattle.learning.specs.Start.{first-kept, told-one, start-desk, start-words, start-beyond}
 use native.Mathlib.Omega.{arith}
-use mathlib.Core.Path.{_≡_, refl, sym, ap, _∙_}
-use Prim.Native.Nat.{ℕ, _+_, _*_, _-_, _/_, _%_, _<_, _≤_}
-use lib.ListN.{length, getD, take, drop, set}
+use mathlib.Core.Path.{_≡_, sym, _∙_}
+use Prim.Native.Nat.{ℕ}
+use lib.ListN.{set}
 use borrow.Author.Needs.{needs}
 use Rattle.learning.proofs.rounds.begin.Statement.{statement}
 use Rattle.learning.proofs.rounds.begin.Tie as tie
-use Rattle.learning.proofs.rounds.begin.Reads as reads
-use Rattle.learning.proofs.rounds.begin.Lts as lts
-use Rattle.learning.proofs.closing.close.Reads as close-reads
-use Rattle.learning.proofs.rounds.one_letter.Reads as one-letter-reads
-use Rattle.learning.proofs.store.store_word.Reads as store-word-reads
-use Rattle.learning.proofs.table.fill_rows.Reads as fill-rows-reads
 
 -- the first table is filled
 desk : (c : tie.After-fill-rows) → let a = c .before .before .before .before .before .before .before .before .before .before .before .before .before .before .before .before .before .before .before .args in Desk (a .n) (a .k) (a .words .now) (c .before .before .before .before .before .before .before .store-word .last .0) (set (a .rows .now) 0 0) 1 (c .before .before .before .before .before .before .before .before .before .before .before .before .one-letter .last .0) (a .k) (c .fill-rows .last .0)

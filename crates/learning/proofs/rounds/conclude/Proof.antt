@@ -1,20 +1,13 @@
 use mathlib.Core.Option.{Option}
-use mathlib.Core.List.{List}
 use Rattle.rules.specs.Words.{Word}
-use Rattle.learning.specs.Desk.{Desk, desk-size, desk-row}
-use Rattle.learning.specs.Pairs.{foundLength, foundPut}
+use Rattle.learning.specs.Desk.{desk-size, desk-row}
+use Rattle.search.specs.Pairs.{foundLength, foundPut}
 use Rattle.learning.specs.Modelled.{Modelled, modelled, modelled-difference, modelled-beside}
 use native.Mathlib.Omega.{arith}
-use mathlib.Core.Path.{_≡_, refl, sym, ap, _∙_}
-use Prim.Native.Nat.{ℕ, _+_, _*_, _-_, _/_, _%_, _<_, _≤_}
-use lib.ListN.{length, getD, take, drop, set}
+use mathlib.Core.Path.{ap, _∙_}
 use borrow.Author.Needs.{needs}
 use Rattle.learning.proofs.rounds.conclude.Statement.{statement}
 use Rattle.learning.proofs.rounds.conclude.Tie as tie
-use Rattle.learning.proofs.rounds.conclude.Reads as reads
-use Rattle.learning.proofs.rounds.conclude.Lts as lts
-use Rattle.learning.proofs.closing.conjecture.Reads as conjecture-reads
-use Rattle.learning.proofs.search.difference.Reads as difference-reads
 
 -- the lent words are the conjecture's
 made : (c : tie.After-conjecture) → let a = c .before .before .before .before .before .before .before .before .args in Modelled (a .n) (a .k) (a .words .now) (a .s .now) (a .m) (a .columns .now) (a .c) (c .conjecture .last .1 .1 .1 .1 .1 .0)

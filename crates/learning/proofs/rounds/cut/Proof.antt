@@ -3,25 +3,20 @@ use mathlib.Core.Bool.{Bool, not}
 use lib.Dec.{eqb}
 use lib.Arith.{digits-lt}
 use borrow.Author.Tests.{eq-eqb, ne-eqb}
-use Rattle.rules.specs.Words.{Word, Below, below-at}
+use Rattle.rules.specs.Words.{Word, below-at}
 use Rattle.rules.specs.Search.{walk}
 use Rattle.rules.specs.Machine.{lent, ask}
-use Rattle.rules.specs.Seek.{seek, seekOn, seek-starts, seek-passes, seek-hits, seek-ends}
-use Rattle.machine.specs.Lent.{link, Steps}
-use Rattle.learning.specs.Store.{slot}
+use Rattle.rules.specs.Seek.{seekOn, seek-starts, seek-passes, seek-hits, seek-ends}
+use Rattle.machine.specs.Lent.{link}
+use Rattle.areas.specs.Store.{slot}
 use Rattle.learning.specs.Cut.{swappedIn, cutIn, walk-next}
 use borrow.Author.Needs.{needs}
 use native.Mathlib.Omega.{arith}
 use mathlib.Core.Path.{_≡_, refl, sym, ap, ap₂, _∙_}
-use Prim.Native.Nat.{ℕ, _+_, _*_, _-_, _/_, _%_, _<_, _≤_}
-use lib.ListN.{length, getD, take, drop, set}
+use Prim.Native.Nat.{ℕ, _+_, _-_, _<_}
+use lib.ListN.{length, take, drop}
 use Rattle.learning.proofs.rounds.cut.Statement.{statement}
 use Rattle.learning.proofs.rounds.cut.Tie as tie
-use Rattle.learning.proofs.rounds.cut.Reads as reads
-use Rattle.learning.proofs.rounds.cut.Lts as lts
-use Rattle.learning.proofs.rounds.swapped.Reads as swapped-reads
-use Rattle.machine.proofs.next.Reads as next-reads
-use Rattle.machine.proofs.wide.Reads as wide-reads
 
 abbrev differs : (Word → ℕ) → List ℕ → (ℕ → ℕ → ℕ) → Word → ℕ → Bool
 differs ask s next w i = not (eqb (swappedIn ask s next w i) (swappedIn ask s next w (i + 1)))

@@ -1,17 +1,13 @@
-use Rattle.rules.specs.Areas.{put}
 use mathlib.Core.Path.{subst}
-use mathlib.Core.List.{List, [], _∷_}
+use mathlib.Core.List.{List}
 use Rattle.learning.specs.Start.{Ones, ones-none, ones-more}
 use borrow.Author.Needs.{needs}
 use native.Mathlib.Omega.{arith}
-use mathlib.Core.Path.{_≡_, refl, sym, ap, _∙_}
-use Prim.Native.Nat.{ℕ, _+_, _*_, _-_, _/_, _%_, _<_, _≤_}
-use lib.ListN.{length, getD, take, drop, set}
+use mathlib.Core.Path.{_≡_, refl, sym}
+use Prim.Native.Nat.{ℕ, _+_, _-_, _%_, _≤_}
+use lib.ListN.{length}
 use Rattle.learning.proofs.rounds.one_letter.Statement.{statement}
 use Rattle.learning.proofs.rounds.one_letter.Tie as tie
-use Rattle.learning.proofs.rounds.one_letter.Reads as reads
-use Rattle.learning.proofs.rounds.one_letter.Lts as lts
-use Rattle.learning.proofs.store.store_word.Reads as store-word-reads
 
 abbrev Inv-loop : tie.InvT-loop
 Inv-loop columns₀ k a₀ columns a = (a ≤ k) × (length columns ≡ length columns₀) × Ones k columns a

@@ -1,29 +1,22 @@
 use mathlib.Core.Path.{subst}
-use mathlib.Core.List.{List, _++_, _∷_}
-use lib.ListN.{length-take, length-drop}
-use Rattle.rules.specs.Areas.{put, put-length}
+use mathlib.Core.List.{List, _∷_}
+use Rattle.rules.specs.Areas.{put}
 use Rattle.rules.specs.Words.{Word}
-use Rattle.rules.specs.Machine.{lent, ask}
+use Rattle.rules.specs.Machine.{ask}
 use Rattle.rules.specs.Table.{suffix}
 use Rattle.rules.specs.Closing.{Told, Columns}
 use Rattle.rules.specs.Rounds.{more}
 use Rattle.machine.specs.Lent.{link}
 use Rattle.learning.specs.Desk.{Desk, wordsIn, columnsIn, desk-size}
 use Rattle.learning.specs.Grid.{Beyond, beyond-then}
-use Rattle.learning.specs.RoundLaws.{Ready, column-kept, columns-are, column-desk, round-low, round-suffix, round-letters, round-short, round-told, round-columns}
+use Rattle.learning.specs.RoundLaws.{column-kept, columns-are, column-desk, round-low, round-suffix, round-letters, round-short, round-told, round-columns}
 use native.Mathlib.Omega.{arith}
-use mathlib.Core.Path.{_≡_, refl, sym, ap, _∙_}
-use Prim.Native.Nat.{ℕ, _+_, _*_, _-_, _/_, _%_, _<_, _≤_}
-use lib.ListN.{length, getD, take, drop, set}
+use mathlib.Core.Path.{_≡_, sym, ap, _∙_}
+use Prim.Native.Nat.{ℕ, _+_, _*_, _<_}
+use lib.ListN.{length}
 use borrow.Author.Needs.{needs}
 use Rattle.learning.proofs.rounds.round.Statement.{statement}
 use Rattle.learning.proofs.rounds.round.Tie as tie
-use Rattle.learning.proofs.rounds.round.Reads as reads
-use Rattle.learning.proofs.rounds.round.Lts as lts
-use Rattle.learning.proofs.closing.close.Reads as close-reads
-use Rattle.learning.proofs.rounds.cut.Reads as cut-reads
-use Rattle.learning.proofs.store.store_word.Reads as store-word-reads
-use Rattle.learning.proofs.table.fill_rows.Reads as fill-rows-reads
 
 -- the suffix of the rule
 abbrev e : ℕ → ℕ → List ℕ → List ℕ → ℕ → List ℕ → ℕ → Word → Word

@@ -1,23 +1,14 @@
-use Rattle.rules.specs.Words.{Word}
-use Rattle.rules.specs.Machine.{lent, ask}
 use Rattle.rules.specs.Links.{stopped}
 use Rattle.machine.specs.Lent.{link}
-use Rattle.learning.specs.Desk.{Desk, wordsIn, columnsIn}
+use Rattle.learning.specs.Desk.{wordsIn, columnsIn}
 use Rattle.learning.specs.Grid.{Beyond, beyond-same, beyond-then}
-use Rattle.learning.specs.Turns.{Turn, Left, turn-at, turn-shut, first-S, first-E, first-past, turn-stays, turn-none, turn-left, turn-room, turn-ready, turn-E, turn-S, turn-past, bounds-of}
-use Rattle.learning.specs.Bounds.{Bounds}
-use borrow.Author.Needs.{needs}
+use Rattle.learning.specs.Turns.{Turn, turn-at, turn-shut, first-S, first-E, first-past, turn-stays, turn-none, turn-left, turn-room, turn-ready, turn-E, turn-S, turn-past, bounds-of}
 use native.Mathlib.Omega.{arith}
 use mathlib.Core.Path.{_≡_, refl, sym, ap, _∙_}
-use Prim.Native.Nat.{ℕ, _+_, _*_, _-_, _/_, _%_, _<_, _≤_}
-use lib.ListN.{length, getD, take, drop, set}
+use Prim.Native.Nat.{_+_, _-_, _<_, _≤_}
+use lib.ListN.{length, take}
 use Rattle.learning.proofs.rounds.rounds.Statement.{statement}
 use Rattle.learning.proofs.rounds.rounds.Tie as tie
-use Rattle.learning.proofs.rounds.rounds.Reads as reads
-use Rattle.learning.proofs.rounds.rounds.Lts as lts
-use Rattle.learning.proofs.rounds.begin.Reads as begin-reads
-use Rattle.learning.proofs.rounds.conclude.Reads as conclude-reads
-use Rattle.learning.proofs.rounds.round.Reads as round-reads
 
 abbrev Inv-loop : tie.InvT-loop
 Inv-loop words n k most table₀ s₀ rows₀ columns₀ model₀ found₀ word₀ m₀ left₀ past₀ table s rows columns model found word m left past =

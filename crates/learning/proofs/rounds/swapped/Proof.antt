@@ -1,25 +1,20 @@
-use mathlib.Core.List.{List, _++_}
+use mathlib.Core.List.{_++_}
 use lib.ListN.{length-take, length-drop}
 use lib.Seq.{length-take-le}
-use Rattle.rules.specs.Areas.{put, put-length}
-use Rattle.rules.specs.Words.{Word, Below, below-append, below-drop}
-use Rattle.rules.specs.Machine.{lent, ask}
+use Rattle.rules.specs.Areas.{put-length}
+use Rattle.rules.specs.Words.{below-append, below-drop}
+use Rattle.rules.specs.Machine.{ask}
 use Rattle.machine.specs.Lent.{link}
 use Rattle.machine.specs.LentLaws.{below-letters}
-use Rattle.learning.specs.Store.{slot, Kept, kept-room, kept-long, kept-letters}
+use Rattle.areas.specs.Store.{slot, kept-room, kept-long, kept-letters}
 use Rattle.learning.specs.Cut.{joined}
 use native.Mathlib.Omega.{arith}
-use mathlib.Core.Path.{_≡_, refl, sym, ap, _∙_}
-use Prim.Native.Nat.{ℕ, _+_, _*_, _-_, _/_, _%_, _<_, _≤_}
-use lib.ListN.{length, getD, take, drop, set}
+use mathlib.Core.Path.{_≡_, sym, ap, _∙_}
+use Prim.Native.Nat.{_+_, _-_, _≤_}
+use lib.ListN.{length, take, drop}
 use borrow.Author.Needs.{needs}
 use Rattle.learning.proofs.rounds.swapped.Statement.{statement}
 use Rattle.learning.proofs.rounds.swapped.Tie as tie
-use Rattle.learning.proofs.rounds.swapped.Reads as reads
-use Rattle.learning.proofs.rounds.swapped.Lts as lts
-use Rattle.learning.proofs.store.copy_word.Reads as copy-word-reads
-use Rattle.learning.proofs.store.put_letters.Reads as put-letters-reads
-use Rattle.machine.proofs.last_output.Reads as last-output-reads
 
 -- the word of S and the kept letters stand at the start of the buffer
 whole : (c : tie.After-put-letters) → let a = c .before .before .before .before .before .before .before .before .before .before .before .args in let at = c .before .before .before .before .before .copy-word .result in (at + (length (a .w .now) - a .i) ≤ length (c .put-letters .last .0)) × (take (at + (length (a .w .now) - a .i)) (c .put-letters .last .0) ≡ slot 48 (a .s .now) (a .state) ++ drop (a .i) (a .w .now))

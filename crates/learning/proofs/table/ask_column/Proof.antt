@@ -1,23 +1,18 @@
 use lib.Seq.{length-take-le}
-use mathlib.Core.List.{List, _++_}
-use mathlib.Core.Bool.{true}
-use Rattle.rules.specs.Areas.{put, put-front, put-keeps, put-length}
-use Rattle.rules.specs.Words.{Below, below-append}
-use Rattle.rules.specs.Machine.{lent, ask}
-use Rattle.machine.specs.Lent.{link, lettersBelow}
+use mathlib.Core.List.{_++_}
+use Rattle.rules.specs.Areas.{put-front, put-keeps, put-length}
+use Rattle.rules.specs.Words.{below-append}
+use Rattle.rules.specs.Machine.{ask}
+use Rattle.machine.specs.Lent.{link}
 use Rattle.machine.specs.LentLaws.{below-letters}
-use Rattle.learning.specs.Store.{slot, Kept, kept-room, kept-long, kept-letters}
+use Rattle.areas.specs.Store.{slot, kept-room, kept-long, kept-letters}
 use native.Mathlib.Omega.{arith}
-use mathlib.Core.Path.{_≡_, refl, sym, ap, _∙_}
-use Prim.Native.Nat.{ℕ, _+_, _*_, _-_, _/_, _%_, _<_, _≤_}
-use lib.ListN.{length, getD, take, drop, set}
+use mathlib.Core.Path.{_≡_, sym, ap, _∙_}
+use Prim.Native.Nat.{_+_, _≤_}
+use lib.ListN.{length, take}
 use borrow.Author.Needs.{needs}
 use Rattle.learning.proofs.table.ask_column.Statement.{statement}
 use Rattle.learning.proofs.table.ask_column.Tie as tie
-use Rattle.learning.proofs.table.ask_column.Reads as reads
-use Rattle.learning.proofs.table.ask_column.Lts as lts
-use Rattle.learning.proofs.store.copy_word.Reads as copy-word-reads
-use Rattle.machine.proofs.last_output.Reads as last-output-reads
 
 -- after the copy: where the word ends lies within, and up to there stand the letters and the column
 joined : (c : tie.After-copy-word) → let a = c .before .before .before .before .before .args in (c .copy-word .result ≤ length (c .copy-word .last .1 .1 .1 .0)) × (take (c .copy-word .result) (c .copy-word .last .1 .1 .1 .0) ≡ take (a .len) (a .word .now) ++ slot 94 (a .columns .now) (a .c))

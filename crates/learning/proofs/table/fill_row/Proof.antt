@@ -1,23 +1,19 @@
-use mathlib.Core.List.{List, _++_, _∷_, []}
+use mathlib.Core.List.{List, _++_}
 use mathlib.Core.Path.{subst}
 use lib.ListN.{length-set}
-use native.Mathlib.Numerals.{add-one}
-use Rattle.rules.specs.Areas.{put, put-none, put-store, put-length}
+use Rattle.rules.specs.Areas.{put, put-none}
 use Rattle.rules.specs.Words.{Word, Below}
-use Rattle.rules.specs.Machine.{lent, ask}
+use Rattle.rules.specs.Machine.{ask}
 use Rattle.machine.specs.Lent.{link}
-use Rattle.learning.specs.Store.{slot, Kept}
-use Rattle.learning.specs.Grid.{cellsFrom, cells-from-none, cells-from-length, cells-from-more, put-cell}
+use Rattle.areas.specs.Store.{slot}
+use Rattle.learning.specs.Grid.{cellsFrom, cells-from-none, put-cell}
 use borrow.Author.Needs.{needs}
 use native.Mathlib.Omega.{arith}
 use mathlib.Core.Path.{_≡_, refl, sym, ap, _∙_}
-use Prim.Native.Nat.{ℕ, _+_, _*_, _-_, _/_, _%_, _<_, _≤_}
-use lib.ListN.{length, getD, take, drop, set}
+use Prim.Native.Nat.{ℕ, _-_, _≤_}
+use lib.ListN.{length, take}
 use Rattle.learning.proofs.table.fill_row.Statement.{statement}
 use Rattle.learning.proofs.table.fill_row.Tie as tie
-use Rattle.learning.proofs.table.fill_row.Reads as reads
-use Rattle.learning.proofs.table.fill_row.Lts as lts
-use Rattle.learning.proofs.table.ask_column.Reads as ask-column-reads
 
 abbrev Inv-loop : tie.InvT-loop
 Inv-loop row₀ words n k word₀ len columns from to c₀ row word c = (from ≤ c) × (c ≤ to) × (length word ≡ length word₀) × (take len word ≡ take len word₀) × (row ≡ put from (cellsFrom (ask (link n k words)) columns from c (take len word₀)) row₀) × (length row ≡ length row₀)

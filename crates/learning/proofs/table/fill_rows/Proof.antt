@@ -1,23 +1,18 @@
-use mathlib.Core.List.{List, _++_}
 use mathlib.Core.Path.{subst}
 use Rattle.rules.specs.Areas.{put, put-part, put-length}
 use Rattle.rules.specs.Words.{Word, Below}
 use Rattle.rules.specs.Table.{row}
-use Rattle.rules.specs.Machine.{lent, ask}
-use Rattle.machine.specs.Lent.{link, Sound}
-use Rattle.learning.specs.Store.{stored, Kept}
+use Rattle.rules.specs.Machine.{ask}
+use Rattle.machine.specs.Lent.{link}
+use Rattle.areas.specs.Store.{stored}
 use Rattle.learning.specs.Grid.{cellsFrom, cellOf, Filled, filled-none, filled-row, row-below, row-long}
 use borrow.Author.Needs.{needs}
 use native.Mathlib.Omega.{arith}
 use mathlib.Core.Path.{_≡_, refl, sym, ap, ap₂, _∙_}
-use Prim.Native.Nat.{ℕ, _+_, _*_, _-_, _/_, _%_, _<_, _≤_}
-use lib.ListN.{length, getD, take, drop, set, length-take, length-drop}
+use Prim.Native.Nat.{ℕ, _+_, _*_, _-_, _≤_}
+use lib.ListN.{length, take, drop, length-take, length-drop}
 use Rattle.learning.proofs.table.fill_rows.Statement.{statement}
 use Rattle.learning.proofs.table.fill_rows.Tie as tie
-use Rattle.learning.proofs.table.fill_rows.Reads as reads
-use Rattle.learning.proofs.table.fill_rows.Lts as lts
-use Rattle.learning.proofs.table.fill_row.Reads as fill-row-reads
-use Rattle.learning.proofs.table.row_word.Reads as row-word-reads
 
 abbrev Inv-loop : tie.InvT-loop
 Inv-loop table₀ words n k s m columns word₀ first last from to r₀ table word r = (first ≤ r) × (r ≤ last) × (length word ≡ length word₀) × (length table ≡ length table₀) × Filled 59 (cellOf (ask (link n k words)) k s m columns to) first r from to table₀ table

@@ -1,19 +1,15 @@
 use mathlib.Core.List.{List}
-use mathlib.Core.Bool.{Bool, true, false}
+use mathlib.Core.Bool.{Bool}
 use lib.Dec.{eqb}
 use borrow.Author.Tests.{eq-eqb, ne-eqb}
-use Rattle.rules.specs.Seek.{seek, seekOn, seek-passes, seek-hits, seek-ends}
+use Rattle.rules.specs.Seek.{seekOn, seek-passes, seek-hits, seek-ends}
 use Rattle.learning.specs.Grid.{stateIn, openIn}
 use borrow.Author.Needs.{needs}
 use native.Mathlib.Omega.{arith}
-use mathlib.Core.Path.{_≡_, refl, sym, ap, _∙_}
-use Prim.Native.Nat.{ℕ, _+_, _*_, _-_, _/_, _%_, _<_, _≤_}
-use lib.ListN.{length, getD, take, drop, set}
+use mathlib.Core.Path.{_≡_, refl, sym, _∙_}
+use Prim.Native.Nat.{ℕ, _-_, _≤_}
 use Rattle.learning.proofs.table.open_row.Statement.{statement}
 use Rattle.learning.proofs.table.open_row.Tie as tie
-use Rattle.learning.proofs.table.open_row.Reads as reads
-use Rattle.learning.proofs.table.open_row.Lts as lts
-use Rattle.learning.proofs.table.state_of.Reads as state-of-reads
 
 abbrev test : List ℕ → List ℕ → ℕ → ℕ → ℕ → Bool
 test table rows m c r = eqb (stateIn 59 table rows m c r) m

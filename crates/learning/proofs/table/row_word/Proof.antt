@@ -1,20 +1,16 @@
 use Rattle.rules.specs.Areas.{put-length}
-use mathlib.Core.List.{List, []}
 use native.Mathlib.Nat.{div-lt-iff-lt-mul}
-use Rattle.rules.specs.Areas.{put, put-none}
+use Rattle.rules.specs.Areas.{put-none}
 use Rattle.rules.specs.Table.{row}
-use Rattle.learning.specs.Store.{slot, stored, Kept, kept-room, kept-long}
+use Rattle.areas.specs.Store.{slot, kept-room, kept-long}
 use Rattle.learning.specs.Grid.{row-put}
 use native.Mathlib.Omega.{arith}
 use mathlib.Core.Path.{_≡_, refl, sym, ap, _∙_}
-use Prim.Native.Nat.{ℕ, _+_, _*_, _-_, _/_, _%_, _<_, _≤_}
-use lib.ListN.{length, getD, take, drop, set}
+use Prim.Native.Nat.{_-_, _/_, _<_}
+use lib.ListN.{length}
 use borrow.Author.Needs.{needs}
 use Rattle.learning.proofs.table.row_word.Statement.{statement}
 use Rattle.learning.proofs.table.row_word.Tie as tie
-use Rattle.learning.proofs.table.row_word.Reads as reads
-use Rattle.learning.proofs.table.row_word.Lts as lts
-use Rattle.learning.proofs.store.copy_word.Reads as copy-word-reads
 
 -- the row's word of S is one of the m
 known : (c : tie.Else1) → (c .before .before .before .args .r - 1) / c .before .before .before .args .k < c .before .before .before .args .m

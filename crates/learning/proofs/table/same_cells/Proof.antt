@@ -1,17 +1,12 @@
-use mathlib.Core.List.{List}
-use mathlib.Core.Bool.{true}
-use Rattle.rules.specs.Tests.{eqs, eqs-is}
+use Rattle.rules.specs.Tests.{eqs-is}
 use Rattle.learning.specs.Grid.{rowCells}
 use native.Mathlib.Omega.{arith}
-use mathlib.Core.Path.{_≡_, refl, sym, ap, _∙_}
-use Prim.Native.Nat.{ℕ, _+_, _*_, _-_, _/_, _%_, _<_, _≤_}
-use lib.ListN.{length, getD, take, drop, set}
+use mathlib.Core.Path.{_≡_}
+use Prim.Native.Nat.{_+_, _*_, _-_}
+use lib.ListN.{take, drop}
 use borrow.Author.Needs.{needs}
 use Rattle.learning.proofs.table.same_cells.Statement.{statement}
 use Rattle.learning.proofs.table.same_cells.Tie as tie
-use Rattle.learning.proofs.table.same_cells.Reads as reads
-use Rattle.learning.proofs.table.same_cells.Lts as lts
-use Rattle.check.proofs.same.Reads as same-reads
 
 mul-a : tie.Need-mul-a
 mul-a c = search needs

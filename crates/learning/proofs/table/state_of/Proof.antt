@@ -1,18 +1,14 @@
 use mathlib.Core.List.{List}
-use mathlib.Core.Bool.{Bool, true, false}
+use mathlib.Core.Bool.{Bool}
 use Rattle.rules.specs.Tests.{eqs}
-use Rattle.rules.specs.Seek.{seek, seekOn, seek-starts, seek-passes, seek-hits, seek-ends}
+use Rattle.rules.specs.Seek.{seekOn, seek-starts, seek-passes, seek-hits, seek-ends}
 use Rattle.learning.specs.Grid.{rowCells, stateIn}
 use borrow.Author.Needs.{needs}
-use native.Mathlib.Omega.{arith}
-use mathlib.Core.Path.{_≡_, refl, sym, ap, _∙_}
-use Prim.Native.Nat.{ℕ, _+_, _*_, _-_, _/_, _%_, _<_, _≤_}
-use lib.ListN.{length, getD, take, drop, set}
+use mathlib.Core.Path.{_≡_, sym, _∙_}
+use Prim.Native.Nat.{ℕ, _-_, _≤_}
+use lib.ListN.{getD}
 use Rattle.learning.proofs.table.state_of.Statement.{statement}
 use Rattle.learning.proofs.table.state_of.Tie as tie
-use Rattle.learning.proofs.table.state_of.Reads as reads
-use Rattle.learning.proofs.table.state_of.Lts as lts
-use Rattle.learning.proofs.table.same_cells.Reads as same-cells-reads
 
 abbrev test : List ℕ → List ℕ → ℕ → ℕ → ℕ → Bool
 test table rows c r j = eqs (rowCells 59 table c (getD rows j 0)) (rowCells 59 table c r)
