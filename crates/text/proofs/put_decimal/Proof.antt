@@ -37,7 +37,7 @@ returns c =
     let a = c .before .before .before .before .before .before .before .before .args in
     let d = c .before .before .before .before .before .decimal in
     let is = spelt (a .x) (d .result) _ (d .ensures .0) (d .ensures .1 .0) (d .ensures .1 .1) in
-    (ap (λ (n : ℕ). a .at + n) (is .1), c .before .before .put-letters .ensures ∙ ap (λ (w : List ℕ). put (a .at) w (a .area .now)) (is .0))
+    record { ends = ap (λ (n : ℕ). a .at + n) (is .1); is = c .before .before .put-letters .ensures ∙ ap (λ (w : List ℕ). put (a .at) w (a .area .now)) (is .0) }
 
 pub put-decimal-spec : {M : Type 1} → statement M
 put-decimal-spec =

@@ -1,0 +1,3 @@
+pub mod Report
+pub mod ReportLaws
+pub mod Reading
