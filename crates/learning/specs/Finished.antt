@@ -21,6 +21,7 @@ use Rattle.rules.specs.ProofLength.{proof-most}
 use Rattle.machine.specs.Lent.{link}
 use Rattle.learning.specs.Proper.{Proper}
 use Rattle.learning.specs.Bounds.{stop-bounds}
+use Rattle.finish.specs.Sheet.{numberedSheet}
 use Rattle.learning.specs.Learner.{finished}
 
 -- the conjecture of the table at the stop
@@ -75,18 +76,18 @@ module _ {k : ℕ} {M : Machine} (I : Proper k M) (R : ℕ) (closed : stopped k 
   -- ---- the model
   -- its words are those of the conjecture numbered anew
   model-same : Same k (renumbered k (conjectured k M R)) (modelOn k (sheetOf k M R))
-  unfolding finished
+  unfolding finished numberedSheet
   model-same = read-back 256 k (renumbered k (conjectured k M R)) (λ s a h ha. renumbered-low k M (I .bytes) (stopped k M R .E) (stopped k M R .S) s a)
 
   pub model-smallest : SmallestModel k M (modelOn k (sheetOf k M R))
   model-smallest = same-smallest (renumbered-smallest smallest) model-same
 
   pub model-numbered : ByLeastWords k (modelOn k (sheetOf k M R)) (sheetOf k M R .reaching)
-  unfolding finished
+  unfolding finished numberedSheet
   model-numbered = same-numbered (renumbered-complete k (conjectured k M R) (smallest .complete)) (numbered k (conjectured k M R) (smallest .complete)) model-same
 
   pub model-states : sheetOf k M R .m ≡ length (stopped k M R .S)
-  unfolding finished conjecture
+  unfolding finished numberedSheet conjecture
   model-states = renumbered-states smallest
 
   -- ---- words and states
@@ -98,7 +99,7 @@ module _ {k : ℕ} {M : Machine} (I : Proper k M) (R : ℕ) (closed : stopped k 
   state-none s u = state-unreached k M (I .whole) (conjectured k M R) s u
 
   pub entries : Entries k M (renumbered k (conjectured k M R)) (sheetOf k M R .reaching) (sheetOf k M R .stateMap)
-  unfolding finished
+  unfolding finished numberedSheet
   entries =
       let C = conjectured k M R in
       let by = numbered k C (smallest .complete) in
@@ -123,7 +124,7 @@ module _ {k : ℕ} {M : Machine} (I : Proper k M) (R : ℕ) (closed : stopped k 
 
   -- ---- its bytes are at most 9,368
   pub sheet-most : length (proofBytes (sheetOf k M R)) ≤ 9368
-  unfolding finished
+  unfolding finished numberedSheet
   sheet-most =
       let b = stop-bounds I R in
       let X = entries in

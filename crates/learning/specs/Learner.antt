@@ -1,20 +1,19 @@
 -- Document 01, 'Table, rounds and stop' and 'Numbers to build for': the learner's answer, its counts, and the contents of both areas.
 use mathlib.Core.Bool.{true, false, _&&_}
-use mathlib.Core.Option.{Option, none, some}
-use mathlib.Core.List.{List, [], _∷_, _++_, map}
-use Prim.Native.Nat.{ℕ, zero, suc, _+_, _*_, _/_, _%_}
+use mathlib.Core.Option.{none, some}
+use mathlib.Core.List.{List, [], _++_, map}
+use Prim.Native.Nat.{ℕ, zero, _+_, _*_, _/_, _%_}
 use lib.ListN.{length, getD}
 use lib.Dec.{ltb, leb}
-use Rattle.rules.specs.Words.{Word}
 use Rattle.rules.specs.Machine.{Machine, lent, ask}
 use Rattle.rules.specs.Table.{from, row, conjecture}
 use Rattle.rules.specs.Rounds.{Stop, cellCount}
 use Rattle.rules.specs.Links.{stopped}
-use Rattle.rules.specs.Numbering.{renumbered, reachingWords, stateMap}
-use Rattle.rules.specs.Sheets.{Proof, proofBytes, wordsOf, wordBytes, CX}
+use Rattle.rules.specs.Sheets.{Proof, proofBytes, wordBytes, CX}
 use Rattle.rules.specs.Areas.{over, zeros}
 use Rattle.rules.specs.Answer.{Answer, refused, gives, demand, within, _>>_}
 use Rattle.machine.specs.Lent.{link, lentCheck}
+use Rattle.finish.specs.Sheet.{numberedSheet}
 
 -- what Done and Open give
 pub record Counts : Type 0 where
@@ -33,21 +32,10 @@ pub record Left : Type 0 where
   pub table : List ℕ
   pub sheet : List ℕ
 
--- the finished proof sheet: the model numbered by least words, the columns in table order, 255 for unreachable states
+-- the finished proof sheet: the conjecture numbered by least words, with the columns of the table
 unfoldable pub finished : ℕ → Machine → Stop → Proof
-unfolding conjecture ask renumbered reachingWords stateMap wordsOf
-finished k M x =
-    let C = conjecture (ask M) (x .E) (x .S) in
-    record {
-      m = renumbered k C .states;
-      k = k;
-      n = M .states;
-      c = length (x .E);
-      model = wordsOf 256 k (renumbered k C);
-      reaching = reachingWords k C;
-      columns = x .E;
-      stateMap = stateMap k M C;
-    }
+unfolding conjecture ask numberedSheet
+finished k M x = numberedSheet k M (conjecture (ask M) (x .E) (x .S)) (x .E)
 
 -- ---- the areas
 abbrev pub tableWidth : ℕ

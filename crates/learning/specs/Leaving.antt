@@ -26,7 +26,7 @@ use Rattle.learning.specs.LearnLaws.{leaves-ten, leaves-done, leaves-ope
 use Rattle.areas.specs.Store.{stored-length}
 use Rattle.learning.specs.Grid.{Holds, Beyond, beyond-same, beyond-then}
 use Rattle.learning.specs.Desk.{wordsIn, columnsIn}
-use Rattle.learning.specs.Sheet.{sheetOf, finished-is}
+use Rattle.finish.specs.Sheet.{numberedSheet, sheet-same}
 use Rattle.learning.specs.Turns.{Turn, turn-none, turn-left, bounds-of}
 
 abbrev pub left-by : Answer Learnt → List ℕ → List ℕ → Left
@@ -38,6 +38,14 @@ counted states rounds cells bytes = record { states = states; rounds = rounds; c
 -- equal parts
 parts : {a b : Answer Learnt} {t t′ s s′ : List ℕ} → a ≡ b → t ≡ t′ → s ≡ s′ → left-by a t s ≡ left-by b t′ s′
 parts {a} {b} {t} {t′} {s} {s′} e f g = ap₂ (λ (x : Answer Learnt) (y : List ℕ). left-by x y s) e f ∙ ap (left-by b t′) g
+
+-- the sheet is the learner's where the lent words are the conjecture
+finished-is : (k : ℕ) (M C : Machine) (x : Stop) (E S : List Word) → 0 < k → Complete k M → Complete k C → x .E ≡ E → x .S ≡ S → Agrees k C (conjecture (ask M) E S)
+    → numberedSheet k M C E ≡ finished k M x
+unfolding finished
+finished-is k M C x E S pos wholeM whole columns words A =
+    sheet-same k M C (conjecture (ask M) E S) E pos wholeM whole A
+    ∙ ap₂ (λ (E′ S′ : List Word). numberedSheet k M (conjecture (ask M) E′ S′) E′) (sym columns) (sym words)
 
 -- ---- at the door
 pub learn-refuses : (n k : ℕ) (words : List ℕ) (L R : ℕ) (table sheet : List ℕ) (x : ℕ) → learnCheck n k words L R table sheet ≡ refused x → left-by (refused x) table sheet ≡ learn n k words L R table sheet
@@ -97,8 +105,8 @@ module _ {n k : ℕ} {words : List ℕ} {p : ℕ} {s rows : List ℕ} {m : ℕ} 
     out = λ i a h ha. same .out i a (subst (λ (j : ℕ). i < j) (same .states) h) ha;
   }
 
-  pub leave-done : m ≤ L → left ≡ 0 → (b : ℕ) (sheet′ : List ℕ) → b ≡ length (proofBytes (sheetOf k (link n k words) (link m k model) (columnsIn columns (k + p))))
-      → sheet′ ≡ put 0 (proofBytes (sheetOf k (link n k words) (link m k model) (columnsIn columns (k + p)))) sheet
+  pub leave-done : m ≤ L → left ≡ 0 → (b : ℕ) (sheet′ : List ℕ) → b ≡ length (proofBytes (numberedSheet k (link n k words) (link m k model) (columnsIn columns (k + p))))
+      → sheet′ ≡ put 0 (proofBytes (numberedSheet k (link n k words) (link m k model) (columnsIn columns (k + p)))) sheet
       → left-by (gives (done (counted m p ((1 + m * k) * (k + p)) b))) table sheet′ ≡ stopLeaves k (link n k words) L (stopped k (link n k words) p) table sheet
   leave-done h none b sheet′ is written =
       let f = finished-is k (link n k words) (link m k model) (stopped k (link n k words) p) (columnsIn columns (k + p)) (wordsIn s m) (T .desk .sound .k-low)

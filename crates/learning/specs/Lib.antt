@@ -13,6 +13,5 @@ pub mod Start
 pub mod Modelled
 pub mod Turns
 pub mod LearnLaws
-pub mod Sheet
 pub mod Answers
 pub mod Leaving

@@ -17,7 +17,6 @@ ghost use Rattle.learning.specs.Turns.{Turn};
 ghost use Rattle.learning.specs.Leaving.{left-by};
 
 pub mod closing;
-pub mod finish;
 pub mod rounds;
 pub mod table;
 

@@ -28,6 +28,7 @@ use Rattle.machine.specs.LentLaws.{at-all}
 use Rattle.learning.specs.Learner.{finished}
 use Rattle.learning.specs.Proper.{Proper}
 use Rattle.learning.specs.Bounds.{stop-bounds}
+use Rattle.finish.specs.Sheet.{numberedSheet}
 use Rattle.learning.specs.Finished.{Entries, tells, smallest, entries, sheetOf}
 use Rattle.sheets.specs.Proofs.{mapByte}
 use Rattle.sheets.specs.Checker.{modelOf, modelState, judge}
@@ -147,11 +148,11 @@ module _ {k : ℕ} {M N : Machine} {reaching : List Word} {states : List ℕ} (I
 -- ---- the learner's sheet
 module _ {k : ℕ} {M : Machine} (I : Proper k M) (R : ℕ) (closed : stopped k M R .left ≡ none) where
   pub learner-seen : Seen (sheetOf k M R)
-  unfolding finished
+  unfolding finished numberedSheet
   learner-seen = sheet-seen I R closed (renumbered-smallest (smallest I R closed)) (entries I R closed)
 
   pub learner-judged : judge (M .states) k M (sheetOf k M R) ≡ gives tt
-  unfolding finished
+  unfolding finished numberedSheet
   learner-judged = sheet-judged I R closed (renumbered-smallest (smallest I R closed)) (entries I R closed)
 
 -- ---- any smallest model's

@@ -1,14 +1,14 @@
 use borrow.Author.Tests.{eq-eqb, ne-eqb}
 use Rattle.rules.specs.Seek.{seekOn, seek-starts, seek-passes, seek-hits, seek-ends}
 use Rattle.rules.specs.Numbering as numbering
-use Rattle.learning.specs.Sheet.{isAt, place-first}
+use Rattle.finish.specs.Sheet.{isAt, place-first}
 use borrow.Author.Needs.{needs}
 use native.Mathlib.Omega.{arith}
 use mathlib.Core.Path.{_≡_, sym, _∙_}
 use Prim.Native.Nat.{_-_, _≤_}
 use lib.ListN.{take}
-use Rattle.learning.proofs.finish.place.Statement.{statement}
-use Rattle.learning.proofs.finish.place.Tie as tie
+use Rattle.finish.proofs.place.Statement.{statement}
+use Rattle.finish.proofs.place.Tie as tie
 
 abbrev Inv-loop : tie.InvT-loop
 Inv-loop order count x j₀ j = (j ≤ count) × (numbering.place (take count order) x ≡ seekOn (isAt order x) count j)

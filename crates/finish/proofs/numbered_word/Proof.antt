@@ -1,13 +1,13 @@
 use native.Mathlib.Nat.{div-lt-iff-lt-mul, mod-lt}
 use Rattle.rules.specs.Numbering as numbering
-use Rattle.learning.specs.Sheet.{numbers-few, numbers-low, numbers-place-few, numbers-word}
+use Rattle.finish.specs.Sheet.{numbers-few, numbers-low, numbers-place-few, numbers-word}
 use native.Mathlib.Omega.{arith}
 use mathlib.Core.Path.{ap, _∙_}
 use Prim.Native.Nat.{ℕ, _+_, _*_, _/_, _%_, _<_, _≤_}
 use lib.ListN.{length, getD, take}
 use borrow.Author.Needs.{needs}
-use Rattle.learning.proofs.finish.numbered_word.Statement.{statement}
-use Rattle.learning.proofs.finish.numbered_word.Tie as tie
+use Rattle.finish.proofs.numbered_word.Statement.{statement}
+use Rattle.finish.proofs.numbered_word.Tie as tie
 
 -- the state at hand is one of those listed
 here : (c : tie.After-shared-slice-known) → (c .before .args .i / c .before .args .k < c .before .args .count) × (c .before .args .count ≤ 48)

@@ -1,8 +1,8 @@
-use Rattle.learning.specs.Sheet.{numbers-few, mapped-here, mapped-none}
+use Rattle.finish.specs.Sheet.{numbers-few, mapped-here, mapped-none}
 use native.Mathlib.Omega.{arith}
 use borrow.Author.Needs.{needs}
-use Rattle.learning.proofs.finish.map_state.Statement.{statement}
-use Rattle.learning.proofs.finish.map_state.Tie as tie
+use Rattle.finish.proofs.map_state.Statement.{statement}
+use Rattle.finish.proofs.map_state.Tie as tie
 
 place-requires : tie.Need-place-requires
 place-requires c κs = (c .before .before .pre .1 .0, c .before .before .pre .1 .1)

@@ -7,8 +7,8 @@ use mathlib.Core.Path.{_≡_, ap, _∙_}
 use Prim.Native.Nat.{ℕ, _+_, _*_, _-_, _<_, _≤_}
 use lib.ListN.{length, getD, take, drop}
 use borrow.Author.Needs.{needs}
-use Rattle.learning.proofs.finish.slot_state.Statement.{statement}
-use Rattle.learning.proofs.finish.slot_state.Tie as tie
+use Rattle.finish.proofs.slot_state.Statement.{statement}
+use Rattle.finish.proofs.slot_state.Tie as tie
 
 -- the word lies within its slot
 here : (c : tie.After-wide) → let a = c .before .before .before .before .args in (a .j * 48 + 48 ≤ length (a .store .now)) × (c .wide .result < 48)

@@ -5,14 +5,14 @@ use Rattle.rules.specs.Table.{from}
 use Rattle.rules.specs.Records.{put-from-none-at, put-from-at}
 use Rattle.machine.specs.Lent.{link}
 use Rattle.areas.specs.Store.{stored}
-use Rattle.learning.specs.Sheet.{mapped}
+use Rattle.finish.specs.Sheet.{mapped}
 use borrow.Author.Needs.{needs}
 use native.Mathlib.Omega.{arith}
 use mathlib.Core.Path.{_≡_, refl}
 use Prim.Native.Nat.{_-_, _≤_}
 use lib.ListN.{length, take}
-use Rattle.learning.proofs.finish.put_map.Statement.{statement}
-use Rattle.learning.proofs.finish.put_map.Tie as tie
+use Rattle.finish.proofs.put_map.Statement.{statement}
+use Rattle.finish.proofs.put_map.Tie as tie
 
 abbrev Inv-loop : tie.InvT-loop
 Inv-loop sheet₀ at n model m k order count states reach found state₀ sheet state = (state ≤ n) × (length sheet ≡ length sheet₀) × (sheet ≡ put at (map (mapped k (link m k model) (take found states) (stored 48 reach found)) (from 0 state)) sheet₀)

@@ -6,14 +6,14 @@ use Rattle.rules.specs.Table.{from}
 use Rattle.rules.specs.FromLaws.{put-from-none, put-from-more}
 use Rattle.rules.specs.Numbering.{renumbered}
 use Rattle.machine.specs.Lent.{link}
-use Rattle.learning.specs.Sheet.{wordOf, numbers-words}
+use Rattle.finish.specs.Sheet.{wordOf, numbers-words}
 use borrow.Author.Needs.{needs}
 use native.Mathlib.Omega.{arith}
 use mathlib.Core.Path.{_≡_, refl, ap, _∙_}
 use Prim.Native.Nat.{ℕ, _*_, _-_, _≤_}
 use lib.ListN.{length}
-use Rattle.learning.proofs.finish.renumber.Statement.{statement}
-use Rattle.learning.proofs.finish.renumber.Tie as tie
+use Rattle.finish.proofs.renumber.Statement.{statement}
+use Rattle.finish.proofs.renumber.Tie as tie
 
 abbrev Inv-loop : tie.InvT-loop
 Inv-loop model m k order count numbered₀ size i₀ numbered i = (i ≤ count * k) × (length numbered ≡ length numbered₀) × (numbered ≡ put 0 (map (wordOf k (renumbered k (link m k model))) (from 0 i)) numbered₀)

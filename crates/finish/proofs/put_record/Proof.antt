@@ -4,14 +4,14 @@ use Rattle.rules.specs.Areas.{put, put-length}
 use Rattle.rules.specs.Sheets.{wordBytes}
 use Rattle.rules.specs.Records.{word-length, put-word}
 use Rattle.areas.specs.Store.{slot, slot-length}
-use Rattle.learning.specs.Sheet.{markOf}
+use Rattle.finish.specs.Sheet.{markOf}
 use native.Mathlib.Omega.{arith}
 use mathlib.Core.Path.{_≡_, refl, sym, ap, _∙_}
 use Prim.Native.Nat.{ℕ, _+_, _*_}
 use lib.ListN.{length, getD, set}
 use borrow.Author.Needs.{needs}
-use Rattle.learning.proofs.finish.put_record.Statement.{statement}
-use Rattle.learning.proofs.finish.put_record.Tie as tie
+use Rattle.finish.proofs.put_record.Statement.{statement}
+use Rattle.finish.proofs.put_record.Tie as tie
 
 -- what was written is the record
 wrote : (c : tie.After-slice-known3) → let a = c .before .before .before .before .before .before .before .before .before .before .before .args in c .before .before .copy-word .last .1 .1 .1 .0 ≡ put (a .at) (wordBytes (markOf (a .mark .now)) (slot (a .width) (a .store .now) (a .j))) (a .sheet .now)

@@ -11,7 +11,7 @@ ghost use Rattle.rules.specs.Numbering as numbering;
 ghost use Rattle.rules.specs.Numbering.{renumbered, stateMap};
 ghost use Rattle.machine.specs.Lent.{link, Steps, Sound};
 ghost use Rattle.areas.specs.Store.{slot, stored, Slots, Kept};
-ghost use Rattle.learning.specs.Sheet.{Numbers, wordOf, modelBytes, markOf, mapped, sheetOf};
+ghost use Rattle.finish.specs.Sheet.{Numbers, wordOf, modelBytes, markOf, mapped, numberedSheet};
 use areas::records;
 use areas::store;
 
@@ -263,8 +263,8 @@ pub fn finish(
     requires { ⌜ Sound n k (now words) ⌝ }
     requires { ⌜ Steps m k (now model) × (m ≤ 48) ⌝ }
     requires { ⌜ Kept 94 k (now columns) c × (c ≤ 59) × (9368 ≤ length (now sheet)) ⌝ }
-    ensures { λ r. ⌜ r ≡ length (proofBytes (sheetOf k (link n k (now (words .entry))) (link m k (now (model .entry))) (stored 94 (now (columns .entry)) c))) ⌝ }
-    ensures { λ _. ⌜ now (sheet .exit) ≡ put 0 (proofBytes (sheetOf k (link n k (now (words .entry))) (link m k (now (model .entry))) (stored 94 (now (columns .entry)) c))) (now (sheet .entry)) ⌝ }
+    ensures { λ r. ⌜ r ≡ length (proofBytes (numberedSheet k (link n k (now (words .entry))) (link m k (now (model .entry))) (stored 94 (now (columns .entry)) c))) ⌝ }
+    ensures { λ _. ⌜ now (sheet .exit) ≡ put 0 (proofBytes (numberedSheet k (link n k (now (words .entry))) (link m k (now (model .entry))) (stored 94 (now (columns .entry)) c))) (now (sheet .entry)) ⌝ }
 {
     let mut order = [0usize; 48];
     let mut reach = [0u8; 2304];

@@ -7,18 +7,17 @@ use native.Mathlib.Nat.{div-lt-iff-lt-mul, suc-mul, mul-le-mul-right}
 use native.Mathlib.Omega.{arith}
 use lib.ListN.{length, getD, take, length-append, length-map, length-take}
 use lib.Seq.{getD-take, length-take-le}
-use lib.Arith.{digits-lt, digits-div, digits-mod}
+use lib.Arith.{digits-lt}
 use lib.Dec.{eqb, ltb}
 use Rattle.rules.specs.Tests.{lt-yes, lt-no}
 use Rattle.rules.specs.Words.{Word}
 use Rattle.rules.specs.Seek.{seek, seek-same, sought}
 use Rattle.rules.specs.Search.{Entry, walk}
-use Rattle.rules.specs.Machine.{Machine, Complete, lent, ask}
+use Rattle.rules.specs.Machine.{Machine, Complete, lent}
 use Rattle.rules.specs.Table.{from, conjecture}
 use Rattle.rules.specs.Closing.{Words}
-use Rattle.rules.specs.FromLaws.{map-from-length, map-from-at}
-use Rattle.rules.specs.Rounds.{Stop}
-use Rattle.rules.specs.Areas.{put, put-put, put-in, put-length}
+use Rattle.rules.specs.FromLaws.{map-from-length}
+use Rattle.rules.specs.Areas.{put, put-put}
 use Rattle.rules.specs.Sheets.{PH, AW, CW, SM, Proof, proofBytes, rowBytes, wordBytes, wordsBytes, wordsOf}
 use Rattle.rules.specs.SheetLaws.{rows-length, room}
 use Rattle.rules.specs.Records.{words-few, words-more-length, put-words-more}
@@ -29,12 +28,12 @@ use Rattle.machine.specs.Lent.{link, Steps}
 use Rattle.machine.specs.LentLaws.{steps-complete}
 use Rattle.areas.specs.Store.{slot, stored, Slots, Kept, stored-length, stored-at, stored-more, slot-length}
 use Rattle.search.specs.Listing.{Numbered}
-use Rattle.learning.specs.Learner.{finished}
 
--- what the sheet says of the machine M, the model C before it was numbered, and the columns E
-unfoldable pub sheetOf : ℕ → Machine → Machine → List Word → Proof
+-- what the sheet says: the machine M, the model C numbered by least words with the words that reach its states, the columns E in table order,
+-- and the model state of each machine state, 255 for an unreachable one
+unfoldable pub numberedSheet : ℕ → Machine → Machine → List Word → Proof
 unfolding renumbered reachingWords stateMap wordsOf
-sheetOf k M C E = record {
+numberedSheet k M C E = record {
   m = renumbered k C .states;
   k = k;
   n = M .states;
@@ -46,8 +45,8 @@ sheetOf k M C E = record {
 }
 
 -- it depends on the model at its states and letters alone
-pub sheet-same : (k : ℕ) (M C K : Machine) (E : List Word) → 0 < k → Complete k M → Complete k C → Agrees k C K → sheetOf k M C E ≡ sheetOf k M K E
-unfolding sheetOf
+pub sheet-same : (k : ℕ) (M C K : Machine) (E : List Word) → 0 < k → Complete k M → Complete k C → Agrees k C K → numberedSheet k M C E ≡ numberedSheet k M K E
+unfolding numberedSheet
 sheet-same k M C K E pos wholeM whole A =
     ap₂ (λ (m : ℕ) (model : List ℕ). sheet m model (reachingWords k C) (stateMap k M C)) (states-same k C K whole A) (renumbered-same k C K whole A 256 pos)
     ∙ ap₂ (λ (reaching : List Word) (states : List ℕ). sheet (renumbered k K .states) (wordsOf 256 k (renumbered k K)) reaching states)
@@ -55,54 +54,6 @@ sheet-same k M C K E pos wholeM whole A =
   where
     sheet : ℕ → List ℕ → List Word → List ℕ → Proof
     sheet m model reaching states = record { m = m; k = k; n = M .states; c = length E; model = model; reaching = reaching; columns = E; stateMap = states }
-
--- so that it is the learner's sheet where the lent words are the conjecture
-pub finished-is : (k : ℕ) (M C : Machine) (x : Stop) (E S : List Word) → 0 < k → Complete k M → Complete k C → x .E ≡ E → x .S ≡ S → Agrees k C (conjecture (ask M) E S)
-    → sheetOf k M C E ≡ finished k M x
-unfolding sheetOf finished
-finished-is k M C x E S pos wholeM whole columns words A =
-    sheet-same k M C (conjecture (ask M) E S) E pos wholeM whole A
-    ∙ ap₂ (λ (E′ S′ : List Word). sheetOf k M (conjecture (ask M) E′ S′) E′) (sym columns) (sym words)
-
--- words that were put for a machine lend it, at its states and letters
-pub lent-agrees : (m k : ℕ) (K : Machine) (area : List ℕ) → K .states ≡ m → m * k ≤ length area → ((s a : ℕ) → s < m → a < k → K .out s a < 256)
-    → Agrees k (link m k (put 0 (wordsOf 256 k K) area)) K
-unfolding lent wordsOf
-lent-agrees m k K area states fits bytes = record {
-  states = sym states;
-  next = λ s a hs ha. let b = bytes s a hs ha in let w = word s a hs ha in omega arith;
-  out = λ s a hs ha. let b = bytes s a hs ha in let w = word s a hs ha in omega arith;
-}
-  where
-    all : ℕ → ℕ
-    all i = 256 * K .next (i / k) (i % k) + K .out (i / k) (i % k)
-
-    word : (s a : ℕ) → s < m → a < k → getD (put 0 (wordsOf 256 k K) area) (s * k + a) 0 ≡ 256 * K .next s a + K .out s a
-    word s a hs ha =
-        let i = s * k + a in
-        let low : i < K .states * k = rw states (digits-lt hs ha) in
-        let n = map-from-length all 0 (K .states * k) in
-        let z : 0 + i ≡ i = omega arith in
-        let size : K .states * k ≡ m * k = ap (λ (x : ℕ). x * k) states in
-        ap (λ (j : ℕ). getD (put 0 (wordsOf 256 k K) area) j 0) (sym z)
-        ∙ put-in 0 (wordsOf 256 k K) area (omega arith) i (omega arith)
-        ∙ map-from-at all 0 (K .states * k) i 0 low
-        ∙ ap all z
-        ∙ ap₂ (λ (x y : ℕ). 256 * K .next x y + K .out x y) (digits-div s ha) (digits-mod s ha)
-
-pub lent-steps : (m k : ℕ) (K : Machine) (area : List ℕ) → Complete k K → K .states ≡ m → m * k ≤ length area → ((s a : ℕ) → s < m → a < k → K .out s a < 256)
-    → Steps m k (put 0 (wordsOf 256 k K) area)
-unfolding lent wordsOf
-lent-steps m k K area whole states fits bytes =
-    let A = lent-agrees m k K area states fits bytes in
-    let n = map-from-length (λ (i : ℕ). 256 * K .next (i / k) (i % k) + K .out (i / k) (i % k)) 0 (K .states * k) in
-    let size : K .states * k ≡ m * k = ap (λ (x : ℕ). x * k) states in
-    let long = put-length 0 (wordsOf 256 k K) area (omega arith) in
-    record {
-      some = omega (arith, whole .0);
-      long = omega arith;
-      next = λ s a hs ha. let low = whole .1 s a (omega arith) ha in omega (arith, A .next s a hs ha);
-    }
 
 -- ---- the model's states, listed by their least words
 pub record Numbers (m k : ℕ) (model states : List ℕ) (count : ℕ) : Type 0 where
@@ -312,8 +263,8 @@ module _ (k : ℕ) (M C : Machine) (E : List Word) (old : List ℕ) where
 
   module _ (rows words columns : ℕ) (rows-end : rows ≡ 6 + length (modelBytes k C)) (words-end : words ≡ rows + length reachBytes) (columns-end : columns ≡ words + length columnBytes)
       (fits : columns + length mapBytes ≤ length old) where
-    pub sheet-put : put columns mapBytes (put words columnBytes (put rows reachBytes (put 6 (modelBytes k C) (put 0 head old)))) ≡ put 0 (proofBytes (sheetOf k M C E)) old
-    unfolding proofBytes sheetOf
+    pub sheet-put : put columns mapBytes (put words columnBytes (put rows reachBytes (put 6 (modelBytes k C) (put 0 head old)))) ≡ put 0 (proofBytes (numberedSheet k M C E)) old
+    unfolding proofBytes numberedSheet
     sheet-put =
         let x1 = modelBytes k C in
         let l1 = length-append head x1 in
@@ -326,8 +277,8 @@ module _ (k : ℕ) (M C : Machine) (E : List Word) (old : List ℕ) where
         four ∙ ap (λ (l : List ℕ). put 0 l old) (append-assoc (head ++ x1 ++ reachBytes) columnBytes mapBytes
         ∙ append-assoc (head ++ x1) reachBytes (columnBytes ++ mapBytes) ∙ append-assoc head x1 (reachBytes ++ (columnBytes ++ mapBytes)))
 
-    pub sheet-length : columns + length mapBytes ≡ length (proofBytes (sheetOf k M C E))
-    unfolding proofBytes sheetOf
+    pub sheet-length : columns + length mapBytes ≡ length (proofBytes (numberedSheet k M C E))
+    unfolding proofBytes numberedSheet
     sheet-length =
         let x1 = modelBytes k C in
         omega (arith, length-append x1 (reachBytes ++ (columnBytes ++ mapBytes)), length-append reachBytes (columnBytes ++ mapBytes), length-append columnBytes mapBytes)
@@ -335,7 +286,7 @@ module _ (k : ℕ) (M C : Machine) (E : List Word) (old : List ℕ) where
     -- as the code writes it
     pub sheet-written : (count c : ℕ) (reaching : List Word) (s1 s2 s3 s4 s5 : List ℕ) → count ≡ renumbered k C .states → length E ≡ c → reaching ≡ reachingWords k C
         → s1 ≡ put 0 (PH ++ (count ∷ k ∷ M .states ∷ c ∷ [])) old → s2 ≡ put 6 (modelBytes k C) s1 → s3 ≡ put rows (wordsBytes AW reaching) s2
-        → s4 ≡ put words columnBytes s3 → s5 ≡ put columns mapBytes s4 → s5 ≡ put 0 (proofBytes (sheetOf k M C E)) old
+        → s4 ≡ put words columnBytes s3 → s5 ≡ put columns mapBytes s4 → s5 ≡ put 0 (proofBytes (numberedSheet k M C E)) old
     sheet-written count c reaching s1 s2 s3 s4 s5 m′ c′ reach one two three four five =
         let first : s1 ≡ put 0 head old = one ∙ ap₂ (λ (x y : ℕ). put 0 (PH ++ (x ∷ k ∷ M .states ∷ y ∷ [])) old) m′ (sym c′) in
         let second : s3 ≡ put rows reachBytes (put 6 (modelBytes k C) (put 0 head old)) =

@@ -8,14 +8,14 @@ use Rattle.rules.specs.SheetLaws.{rows-most}
 use Rattle.rules.specs.Machine.{lent}
 use Rattle.machine.specs.Lent.{link}
 use Rattle.areas.specs.Store.{stored, stored-length}
-use Rattle.learning.specs.Sheet.{Numbers, numbers, numbers-few, numbers-states, modelBytes, model-length, stored-few, map-length, sheet-length, sheet-written}
+use Rattle.finish.specs.Sheet.{Numbers, numbers, numbers-few, numbers-states, modelBytes, model-length, stored-few, map-length, sheet-length, sheet-written}
 use native.Mathlib.Omega.{arith}
 use mathlib.Core.Path.{_≡_, sym, ap, _∙_}
 use Prim.Native.Nat.{ℕ, _+_, _*_, _≤_}
 use lib.ListN.{length}
 use borrow.Author.Needs.{needs}
-use Rattle.learning.proofs.finish.finish.Statement.{statement}
-use Rattle.learning.proofs.finish.finish.Tie as tie
+use Rattle.finish.proofs.finish.Statement.{statement}
+use Rattle.finish.proofs.finish.Tie as tie
 
 -- the model's states are listed
 listed : (c : tie.After-number) → let a = c .before .before .before .before .before .before .before .args in Numbers (a .m) (a .k) (a .model .now) (c .number .last .1 .1 .1 .0) (c .number .result)

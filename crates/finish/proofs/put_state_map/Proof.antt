@@ -5,14 +5,14 @@ use Rattle.rules.specs.Machine.{lent}
 use Rattle.machine.specs.Lent.{link}
 use Rattle.machine.specs.LentLaws.{sound-steps, steps-complete}
 use Rattle.areas.specs.Store.{stored}
-use Rattle.learning.specs.Sheet.{mapped, numbered-kept, numbered-few, map-put}
+use Rattle.finish.specs.Sheet.{mapped, numbered-kept, numbered-few, map-put}
 use native.Mathlib.Omega.{arith}
 use mathlib.Core.Path.{ap, _∙_}
 use Prim.Native.Nat.{_+_}
 use lib.ListN.{take}
 use borrow.Author.Needs.{needs}
-use Rattle.learning.proofs.finish.put_state_map.Statement.{statement}
-use Rattle.learning.proofs.finish.put_state_map.Tie as tie
+use Rattle.finish.proofs.put_state_map.Statement.{statement}
+use Rattle.finish.proofs.put_state_map.Tie as tie
 
 slice-aggregate-number : tie.Need-slice-aggregate-number
 slice-aggregate-number c = search needs

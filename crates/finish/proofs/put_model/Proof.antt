@@ -6,14 +6,14 @@ use Rattle.rules.specs.SheetLaws.{words-most}
 use Rattle.rules.specs.Records.{start-taken}
 use Rattle.rules.specs.Numbering.{renumbered}
 use Rattle.machine.specs.Lent.{link}
-use Rattle.learning.specs.Sheet.{numbers-few, numbers-size, numbers-states, model-length}
+use Rattle.finish.specs.Sheet.{numbers-few, numbers-size, numbers-states, model-length}
 use native.Mathlib.Omega.{arith}
 use mathlib.Core.Path.{_≡_, sym, ap, _∙_}
 use Prim.Native.Nat.{ℕ, _+_, _*_, _≤_}
 use lib.ListN.{length, take}
 use borrow.Author.Needs.{needs}
-use Rattle.learning.proofs.finish.put_model.Statement.{statement}
-use Rattle.learning.proofs.finish.put_model.Tie as tie
+use Rattle.finish.proofs.put_model.Statement.{statement}
+use Rattle.finish.proofs.put_model.Tie as tie
 
 -- the numbered words have their room
 few : (c : tie.After-numbered) → c .before .before .before .args .count * c .before .before .before .args .k ≤ 576

@@ -1,14 +1,14 @@
 use Rattle.rules.specs.Areas.{put, put-none}
 use Rattle.rules.specs.Sheets.{wordsBytes}
 use Rattle.areas.specs.Store.{slot, stored}
-use Rattle.learning.specs.Sheet.{markOf, slot-room, record-room, record-ends, record-put}
+use Rattle.finish.specs.Sheet.{markOf, slot-room, record-room, record-ends, record-put}
 use borrow.Author.Needs.{needs}
 use native.Mathlib.Omega.{arith}
 use mathlib.Core.Path.{_≡_, refl, sym, ap, _∙_}
 use Prim.Native.Nat.{ℕ, _+_, _-_, _≤_}
 use lib.ListN.{length}
-use Rattle.learning.proofs.finish.put_records.Statement.{statement}
-use Rattle.learning.proofs.finish.put_records.Tie as tie
+use Rattle.finish.proofs.put_records.Statement.{statement}
+use Rattle.finish.proofs.put_records.Tie as tie
 
 abbrev Inv-loop : tie.InvT-loop
 Inv-loop sheet₀ at mark store width count end₀ j₀ sheet end j = (j ≤ count) × (end ≡ at + length (wordsBytes (markOf mark) (stored width store j))) × (length sheet ≡ length sheet₀) × (sheet ≡ put at (wordsBytes (markOf mark) (stored width store j)) sheet₀)

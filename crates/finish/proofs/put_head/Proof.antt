@@ -6,8 +6,8 @@ use mathlib.Core.Path.{_≡_, ap, _∙_}
 use Prim.Native.Nat.{ℕ, _%_, _<_}
 use lib.ListN.{set}
 use borrow.Author.Needs.{needs}
-use Rattle.learning.proofs.finish.put_head.Statement.{statement}
-use Rattle.learning.proofs.finish.put_head.Tie as tie
+use Rattle.finish.proofs.put_head.Statement.{statement}
+use Rattle.finish.proofs.put_head.Tie as tie
 
 put-mark-requires : tie.Need-put-mark-requires
 put-mark-requires c κs = search needs
