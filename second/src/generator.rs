@@ -114,6 +114,11 @@ pub fn machine(kind: Kind, rng: &mut Rng) -> OwnedMachine {
     }
 }
 
+/// The kinds take turns: the machine of a number.
+pub fn in_turn(number: usize, rng: &mut Rng) -> OwnedMachine {
+    machine(Kind::ALL[number % Kind::ALL.len()], rng)
+}
+
 /// A size from 1 to the greatest; the greatest and the small ones come more often than by chance.
 fn size(rng: &mut Rng, greatest: usize) -> usize {
     match rng.below(6) {

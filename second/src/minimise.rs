@@ -6,8 +6,8 @@ use crate::sheets::NO_STATE;
 use crate::words::{compare, joined};
 use std::collections::{BTreeSet, HashMap};
 
-/// The smallest model numbered by least words, with these words and the map from the machine's states.
-pub struct Smallest {
+/// A model numbered by least words, with these words and the map from the machine's states.
+pub struct Numbered {
     pub model: OwnedMachine,
     pub reaching_words: Vec<Vec<u8>>,
     pub state_map: Vec<u8>,
@@ -76,10 +76,25 @@ fn refined(machine: Machine<'_>, class: &[usize]) -> Vec<usize> {
 }
 
 /// The smallest model of a machine.
-pub fn smallest(machine: Machine<'_>) -> Smallest {
+pub fn smallest(machine: Machine<'_>) -> Numbered {
+    numbered(machine, &classes(machine))
+}
+
+/// The reachable part of a machine, in which equal states stay apart.
+pub fn reachable_part(machine: Machine<'_>) -> Numbered {
+    let alone: Vec<usize> = (0..machine.states()).collect();
+    numbered(machine, &alone)
+}
+
+/// Whether a model answers every word as the machine does, with the fewest states.
+pub fn is_smallest_model(model: Machine<'_>, machine: Machine<'_>) -> bool {
+    equal(model, machine) && model.states() == smallest(machine).model.n
+}
+
+/// The model that has one state for each class with a reachable state.
+fn numbered(machine: Machine<'_>, class: &[usize]) -> Numbered {
     let words = least_words(machine);
-    let class = classes(machine);
-    let chosen = least_states(&words, &class);
+    let chosen = least_states(&words, class);
     let number_of = |state: usize| {
         chosen
             .iter()
@@ -100,7 +115,7 @@ pub fn smallest(machine: Machine<'_>) -> Smallest {
         })
         .collect();
     let reaching_words = chosen.iter().map(|(_, word)| word.clone()).collect();
-    Smallest {
+    Numbered {
         model,
         reaching_words,
         state_map,
@@ -120,13 +135,16 @@ fn least_states(words: &[Option<Vec<u8>>], class: &[usize]) -> Vec<(usize, Vec<u
     reached
 }
 
-/// Whether two machines answer every word alike: looks at every pair of states met together.
+/// Whether two machines answer every word alike.
 pub fn equal(left: Machine<'_>, right: Machine<'_>) -> bool {
-    if left.letters() != right.letters() {
-        return false;
-    }
-    let mut met = BTreeSet::from([(0, 0)]);
-    let mut waiting = vec![(0, 0)];
+    left.letters() == right.letters() && equal_from(left, right, (0, 0))
+}
+
+/// Whether two machines over the same letters answer every word alike from the given states: looks at every
+/// pair of states met together.
+pub fn equal_from(left: Machine<'_>, right: Machine<'_>, pair: (usize, usize)) -> bool {
+    let mut met = BTreeSet::from([pair]);
+    let mut waiting = vec![pair];
     while let Some((of_left, of_right)) = waiting.pop() {
         for letter in left.alphabet() {
             if left.output(of_left, letter) != right.output(of_right, letter) {

@@ -5,7 +5,7 @@ use crate::checker;
 use crate::generator::{self, Damage, Kind, Rng};
 use crate::learner::{self, Answer, MAX_COLUMNS, MAX_ROUNDS, TABLE_AREA};
 use crate::machine::{self, Machine, OwnedMachine, MAX_STATES, WORD_AREA};
-use crate::minimise::{self, Smallest};
+use crate::minimise::{self, Numbered};
 use crate::refusal;
 use crate::sheets::{self, Counts, ProofSheet, MACHINE_SHEET_AREA, PROOF_SHEET_AREA};
 use crate::words::joined;
@@ -145,19 +145,9 @@ fn check_machine(
         let damaged = generator::damaged(damage, &machine_sheet, rng);
         check_damaged_machine_sheet(&damaged, totals, rng)?;
         let damaged = generator::damaged(damage, full.sheet_written(), rng);
-        check_any_proof_sheet(
-            machine,
-            &damaged,
-            &smallest,
-            &mut totals.damaged_proof_sheets,
-        )?;
+        check_any_proof_sheet(machine, &damaged, &mut totals.damaged_proof_sheets)?;
     }
-    check_any_proof_sheet(
-        machine,
-        other_sheet,
-        &smallest,
-        &mut totals.other_proof_sheets,
-    )?;
+    check_any_proof_sheet(machine, other_sheet, &mut totals.other_proof_sheets)?;
     Ok(full.sheet_written().to_vec())
 }
 
@@ -180,7 +170,7 @@ fn count_answer(learnt: &Learnt, totals: &mut Totals, place: usize) {
 }
 
 /// The minimiser itself: its model is equal to the machine and none of its states is spare.
-fn check_minimiser(machine: &OwnedMachine, smallest: &Smallest) -> Result<(), String> {
+fn check_minimiser(machine: &OwnedMachine, smallest: &Numbered) -> Result<(), String> {
     ensure(
         minimise::equal(machine.lend(), smallest.model.lend()),
         "the minimised machine is not equal",
@@ -195,7 +185,7 @@ fn check_minimiser(machine: &OwnedMachine, smallest: &Smallest) -> Result<(), St
 /// Machine and smallest model answer some questions alike, put as a caller puts them.
 fn check_questions(
     machine: &OwnedMachine,
-    smallest: &Smallest,
+    smallest: &Numbered,
     rng: &mut Rng,
 ) -> Result<(), String> {
     for _ in 0..10 {
@@ -249,7 +239,7 @@ fn cells_by_formula(states: usize, k: usize, rounds: usize) -> usize {
 }
 
 /// A Done answer in full: counts, model, numbering, words, state map, reader, records and checker.
-fn check_done(machine: &OwnedMachine, learnt: &Learnt, smallest: &Smallest) -> Result<(), String> {
+fn check_done(machine: &OwnedMachine, learnt: &Learnt, smallest: &Numbered) -> Result<(), String> {
     let Answer::Done {
         states,
         rounds,
@@ -304,7 +294,7 @@ fn check_done(machine: &OwnedMachine, learnt: &Learnt, smallest: &Smallest) -> R
     )
 }
 
-fn check_records(sheet: &[u8], smallest: &Smallest) -> Result<(), String> {
+fn check_records(sheet: &[u8], smallest: &Numbered) -> Result<(), String> {
     for (state, word) in smallest.reaching_words.iter().enumerate() {
         let record = [b"AW", &[word.len() as u8][..], word].concat();
         ensure(
@@ -487,7 +477,7 @@ fn check_stop(machine: &OwnedMachine, learnt: &Learnt, replay: &Replay<'_>) -> R
 fn check_limits(
     machine: &OwnedMachine,
     full: &Learnt,
-    smallest: &Smallest,
+    smallest: &Numbered,
     columns: &[Vec<u8>],
     (totals, place): (&mut Totals, usize),
     rng: &mut Rng,
@@ -556,7 +546,7 @@ fn check_limit(
     machine: &OwnedMachine,
     limited: &Learnt,
     unlimited: &Learnt,
-    smallest: &Smallest,
+    smallest: &Numbered,
     l: usize,
 ) -> Result<(), String> {
     let (Answer::Done { states, .. } | Answer::Open { states, .. }) = unlimited.answer else {
@@ -635,7 +625,6 @@ fn check_damaged_machine_sheet(
 fn check_any_proof_sheet(
     machine: &OwnedMachine,
     sheet: &[u8],
-    smallest: &Smallest,
     totals: &mut [usize; 15],
 ) -> Result<(), String> {
     let read = sheets::parse_proof_sheet(sheet);
@@ -660,9 +649,7 @@ fn check_any_proof_sheet(
         "the checker's answer is not the one due",
     )?;
     ensure(
-        checked.is_err()
-            || proof.model.n == smallest.model.n
-                && minimise::equal(proof.model.lend(), machine.lend()),
+        checked.is_err() || minimise::is_smallest_model(proof.model.lend(), machine.lend()),
         "an accepted sheet does not hold a smallest model",
     )
 }
