@@ -44,7 +44,7 @@ impl Compared {
         self.differ == 0 && self.wrong.is_empty()
     }
 
-    /// The operations' names with how often each outcome was met.
+    /// How often each outcome of an operation was met.
     pub fn outcomes(&self, operation: Operation) -> Vec<(Outcome, usize)> {
         let outcomes = self.by_outcome.iter();
         outcomes
@@ -101,8 +101,12 @@ impl Compared {
         self.wrong.extend(other.wrong);
     }
 
-    /// A comparison in which some answer of the paper never came up shows too little.
+    /// A comparison in which some answer of the paper never came up shows too little. One that ended early has
+    /// said so already.
     pub fn require_every_outcome(&mut self, families: &[Family]) {
+        if !self.wrong.is_empty() {
+            return;
+        }
         for operation in families.iter().flat_map(|family| family.operations()) {
             for outcome in operation.outcomes() {
                 if !self.by_outcome.contains_key(&(*operation, outcome)) {

@@ -88,7 +88,20 @@ pub fn reachable_part(machine: Machine<'_>) -> Numbered {
 
 /// Whether a model answers every word as the machine does, with the fewest states.
 pub fn is_smallest_model(model: Machine<'_>, machine: Machine<'_>) -> bool {
-    equal(model, machine) && model.states() == smallest(machine).model.n
+    equal(model, machine) && model.states() == size(machine)
+}
+
+/// How many states a smallest model has: the classes with a reachable state.
+pub fn size(machine: Machine<'_>) -> usize {
+    let class = classes(machine);
+    let mut met = BTreeSet::from([0]);
+    let mut waiting = vec![0];
+    while let Some(state) = waiting.pop() {
+        let nexts = machine.alphabet().map(|letter| machine.next(state, letter));
+        waiting.extend(nexts.filter(|&next| met.insert(next)));
+    }
+    let classes: BTreeSet<usize> = met.into_iter().map(|state| class[state]).collect();
+    classes.len()
 }
 
 /// The model that has one state for each class with a reachable state.

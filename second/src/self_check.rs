@@ -179,6 +179,10 @@ fn check_minimiser(machine: &OwnedMachine, smallest: &Numbered) -> Result<(), St
     ensure(
         again.model == smallest.model,
         "minimising again changes the model",
+    )?;
+    ensure(
+        minimise::size(machine.lend()) == smallest.model.n,
+        "the minimised machine has another size",
     )
 }
 
