@@ -246,9 +246,19 @@ fn run_compare(
     let mut compared = compare::run(&plan, program)?;
     compared.require_every_outcome(&plan.families);
     Ok(Outcome {
-        text: compared_text(&compared),
+        text: compared_text(&compared) + &plan_text(&plan, &compared),
         is_right: compared.is_right(),
     })
+}
+
+fn plan_text(plan: &Plan, compared: &Compared) -> String {
+    let names: Vec<&str> = plan.families.iter().map(|family| family.name()).collect();
+    let Plan { seed, count, .. } = plan;
+    let Compared { cases, differ, .. } = compared;
+    let (names, kinds) = (names.join(", "), Kind::ALL.len());
+    format!(
+        "{names}: {count} machines of {kinds} kinds from seed {seed}, {cases} cases, {differ} differ\n"
+    )
 }
 
 fn compared_text(compared: &Compared) -> String {
@@ -277,19 +287,13 @@ fn compared_text(compared: &Compared) -> String {
             );
         }
     }
-    let Compared {
-        cases,
-        differ,
-        smallest_models,
-        ..
-    } = compared;
-    if *smallest_models > 0 {
+    if compared.smallest_models > 0 {
+        let count = compared.smallest_models;
         line(
             &mut text,
-            &format!("{smallest_models} accepted sheets hold a model equal to the machine and as small as the minimised one"),
+            &format!("{count} accepted sheets searched: each model is equal to its machine and as small as the minimised one"),
         );
     }
-    line(&mut text, &format!("{cases} cases, {differ} differ"));
     text
 }
 
