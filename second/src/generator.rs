@@ -188,6 +188,16 @@ fn ring(rng: &mut Rng) -> OwnedMachine {
     })
 }
 
+/// A ring of 48 states in which letter 0 goes forward and the others stay; on 0 one state has the odd output.
+/// Such a ring takes the most rounds and the longest counterexamples, and with 12 letters fills the table.
+pub fn great_ring(k: usize, odd_state: usize) -> OwnedMachine {
+    OwnedMachine::build(MAX_STATES, k, |state, letter| {
+        let is_odd = letter == 0 && state == odd_state;
+        let next = if letter == 0 { state + 1 } else { state };
+        (u8::from(is_odd), next % MAX_STATES)
+    })
+}
+
 /// Digits of some base shifted in by the letters; the digit leaving is shown, by all letters or by one.
 fn shift_register(rng: &mut Rng) -> OwnedMachine {
     let base = 2 + rng.below(6);

@@ -1,9 +1,9 @@
 //! Every case of the paper, the self checks with a fixed seed, and the program's bad uses.
 
 use second::learner::{learn, Answer, MAX_ROUNDS, TABLE_AREA};
-use second::machine::{OwnedMachine, MAX_STATES};
+use second::machine::MAX_STATES;
 use second::sheets::PROOF_SHEET_AREA;
-use second::{cases, self_check};
+use second::{cases, generator, self_check};
 use std::process::Command;
 
 #[test]
@@ -33,9 +33,7 @@ fn rings_reach_the_longest_counterexample() {
     let mut sheet = vec![0; PROOF_SHEET_AREA];
     let mut longest = 0;
     for odd in 0..MAX_STATES {
-        let ring = OwnedMachine::build(MAX_STATES, 1, |state, _| {
-            (u8::from(state == odd), (state + 1) % MAX_STATES)
-        });
+        let ring = generator::great_ring(1, odd);
         for r in 0..=MAX_ROUNDS {
             let answer = learn(&ring.words, 48, 1, 48, r, &mut table, &mut sheet);
             if let Answer::Open { bytes, .. } = answer {

@@ -5,7 +5,7 @@ use super::case::{Case, Lent};
 use super::lent::{bad_machines, damaged, every_small_damage, m1, proof_sheet};
 use crate::cases;
 use crate::generator::{self, Kind, Rng};
-use crate::machine::{transition, OwnedMachine};
+use crate::machine::{transition, OwnedMachine, MAX_LETTERS, MAX_STATES};
 use crate::minimise::{self, Numbered};
 use crate::sheets::{self, NO_STATE};
 
@@ -18,8 +18,8 @@ const MOST_COLUMNS: usize = 59;
 const LONGEST_REACHING_WORD: usize = 47;
 const LONGEST_COLUMN: usize = 93;
 
-/// The cases that no seed changes: the paper's sheets about M1, every small damage of its proof sheet, and
-/// bad machines together with good and bad sheets.
+/// The cases that no seed changes: the paper's sheets about M1, every small damage of its proof sheet, bad
+/// machines together with good and bad sheets, and the longest sheet.
 pub fn fixed(give: &mut dyn FnMut(Case)) {
     let machine = Lent::of(&m1());
     for (_, _, sheet) in cases::checked_sheets() {
@@ -33,28 +33,17 @@ pub fn fixed(give: &mut dyn FnMut(Case)) {
         give(Case::check(&bad, cases::m1_proof()));
         give(Case::check(&bad, Vec::new()));
     }
+    let (machine, longest) = longest();
+    for _ in 0..4 {
+        changed_sheets(&machine, &longest, &mut rng, give);
+    }
 }
 
 /// The cases of one generated machine.
 pub fn generated(machine: &OwnedMachine, rng: &mut Rng, give: &mut dyn FnMut(Case)) {
     let lent = Lent::of(machine);
     let learnt = Parts::of(&proof_sheet(machine));
-    give(Case::check(&lent, learnt.sheet()));
-    for change in CHANGES {
-        give(Case::check(&lent, change(&learnt, machine, rng).sheet()));
-    }
-    for _ in 0..MIXED {
-        let mixed = mixed(&learnt, machine, rng);
-        give(Case::check(&lent, mixed.sheet()));
-    }
-    for _ in 0..DAMAGES {
-        let sheet = if rng.once_in(2) {
-            learnt.sheet()
-        } else {
-            mixed(&learnt, machine, rng).sheet()
-        };
-        give(Case::check(&lent, damaged(&sheet, rng)));
-    }
+    changed_sheets(machine, &learnt, rng, give);
     for other in other_machines(machine, rng) {
         give(Case::check(&Lent::of(&other), learnt.sheet()));
         give(Case::check(&lent, proof_sheet(&other)));
@@ -63,6 +52,51 @@ pub fn generated(machine: &OwnedMachine, rng: &mut Rng, give: &mut dyn FnMut(Cas
     give(Case::check(&rng.choose(&bad), learnt.sheet()));
     let sheet = damaged(&learnt.sheet(), rng);
     give(Case::check(&rng.choose(&bad), sheet));
+}
+
+/// A good sheet itself, then changed part by part and byte by byte.
+fn changed_sheets(machine: &OwnedMachine, good: &Parts, rng: &mut Rng, give: &mut dyn FnMut(Case)) {
+    let lent = Lent::of(machine);
+    give(Case::check(&lent, good.sheet()));
+    for change in CHANGES {
+        give(Case::check(&lent, change(good, machine, rng).sheet()));
+    }
+    for _ in 0..MIXED {
+        give(Case::check(&lent, mixed(good, machine, rng).sheet()));
+    }
+    for _ in 0..DAMAGES {
+        let sheet = if rng.once_in(2) {
+            good.sheet()
+        } else {
+            mixed(good, machine, rng).sheet()
+        };
+        give(Case::check(&lent, damaged(&sheet, rng)));
+    }
+}
+
+/// The longest proof sheet that there is, 9,368 bytes, with its machine: most states, letters and columns, and
+/// every word as long as may be. State 47 of the ring is odd, so t letters 0 tell the state 48 - t from all
+/// others; letter 1 stays, and fills the words up. Only the last column tells state 1 from 0.
+fn longest() -> (OwnedMachine, Parts) {
+    let machine = generator::great_ring(MAX_LETTERS, MAX_STATES - 1);
+    let filled = |zeros: usize, length: usize| [vec![1; length - zeros], vec![0; zeros]].concat();
+    let states = 0..MAX_STATES;
+    let reaching_words = states
+        .clone()
+        .map(|state| filled(state, LONGEST_REACHING_WORD));
+    // 47 columns are enough, so the first one stands there several times.
+    let spare = MOST_COLUMNS - (MAX_STATES - 1);
+    let columns = (0..MOST_COLUMNS).map(|column| {
+        let zeros = (column + 1).saturating_sub(spare).max(1);
+        filled(zeros, LONGEST_COLUMN)
+    });
+    let parts = Parts {
+        model: machine.clone(),
+        reaching_words: reaching_words.collect(),
+        columns: columns.collect(),
+        state_map: states.map(|state| state as u8).collect(),
+    };
+    (machine, parts)
 }
 
 /// A proof sheet's parts, to be changed and written again.
@@ -331,6 +365,17 @@ mod tests {
                 assert!(holds_smallest_model(&case));
             }
         }
+    }
+
+    #[test]
+    fn the_longest_sheet_needs_its_last_column() {
+        let (machine, longest) = longest();
+        let checked = |parts: &Parts| checker::check(&machine.words, 48, 12, &parts.sheet());
+        assert_eq!(longest.sheet().len(), sheets::PROOF_SHEET_AREA);
+        assert_eq!(checked(&longest), Ok(()));
+        let mut shorter = longest.clone();
+        shorter.columns.pop();
+        assert_eq!(checked(&shorter), Err(13));
     }
 
     #[test]

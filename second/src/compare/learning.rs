@@ -76,22 +76,14 @@ fn every_round(machine: &Lent, give: &mut dyn FnMut(Case)) {
     }
 }
 
-/// Machines of 48 states: rings with one odd output, which take the most rounds and the longest
-/// counterexamples, and with 12 letters fill the table.
+/// Machines of 48 states, many of 12 letters.
 fn largest() -> Vec<OwnedMachine> {
-    let ring = |k: usize, odd: usize| {
-        OwnedMachine::build(MAX_STATES, k, |state, letter| {
-            let is_odd = letter == 0 && state == odd;
-            let next = if letter == 0 { state + 1 } else { state };
-            (u8::from(is_odd), next % MAX_STATES)
-        })
-    };
     let mut rng = Rng::new(48);
     let random = OwnedMachine::build(MAX_STATES, MAX_LETTERS, |_, _| {
         (u8::from(rng.once_in(16)), rng.below(MAX_STATES))
     });
     let odd_states = [0, 1, 24, 46, 47];
-    let rings = odd_states.map(|odd| [ring(1, odd), ring(MAX_LETTERS, odd)]);
+    let rings = odd_states.map(|odd| [1, MAX_LETTERS].map(|k| generator::great_ring(k, odd)));
     [rings.concat(), vec![random]].concat()
 }
 
