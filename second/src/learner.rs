@@ -3,14 +3,12 @@
 
 use crate::machine::{Machine, OwnedMachine, MAX_STATES};
 use crate::refusal;
-use crate::sheets;
+use crate::sheets::{self, MAX_COLUMNS};
 use crate::words::joined;
 use std::collections::VecDeque;
 
 pub const MAX_ROUNDS: usize = 47;
 pub const MAX_ROWS: usize = 577;
-/// Also the distance from one row to the next in the table area, whatever k is.
-pub const MAX_COLUMNS: usize = 59;
 pub const TABLE_AREA: usize = MAX_ROWS * MAX_COLUMNS;
 
 /// Done and Open each give the words in S, the rounds past, the cells, and the bytes written to the
@@ -222,6 +220,7 @@ impl<'a> Table<'a> {
     fn leave_cells(&self, area: &mut [u8]) {
         area[..TABLE_AREA].fill(0);
         for (number, row) in self.rows.iter().enumerate() {
+            // The distance from one row to the next is the same whatever k is.
             put(&mut area[number * MAX_COLUMNS..], &row.cells);
         }
     }

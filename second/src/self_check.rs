@@ -3,11 +3,11 @@
 
 use crate::checker;
 use crate::generator::{self, Damage, Kind, Rng};
-use crate::learner::{self, Answer, MAX_COLUMNS, MAX_ROUNDS, TABLE_AREA};
+use crate::learner::{self, Answer, MAX_ROUNDS, TABLE_AREA};
 use crate::machine::{self, Machine, OwnedMachine, MAX_STATES, WORD_AREA};
 use crate::minimise::{self, Numbered};
 use crate::refusal;
-use crate::sheets::{self, Counts, ProofSheet, MACHINE_SHEET_AREA, PROOF_SHEET_AREA};
+use crate::sheets::{self, Counts, ProofSheet, MACHINE_SHEET_AREA, MAX_COLUMNS, PROOF_SHEET_AREA};
 use crate::words::joined;
 use std::collections::BTreeSet;
 

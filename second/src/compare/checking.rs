@@ -7,16 +7,14 @@ use crate::cases;
 use crate::generator::{self, Kind, Rng};
 use crate::machine::{transition, OwnedMachine, MAX_LETTERS, MAX_STATES};
 use crate::minimise::{self, Numbered};
-use crate::sheets::{self, NO_STATE};
+use crate::sheets::{self, MAX_COLUMNS, NO_STATE};
 
 /// How often the bytes of a generated machine's sheets are damaged.
 const DAMAGES: usize = 12;
 /// How many sheets have several changes.
 const MIXED: usize = 6;
-/// "m is 1 to 48, c is 0 to 59", and the longest words of both records.
-const MOST_COLUMNS: usize = 59;
-const LONGEST_REACHING_WORD: usize = 47;
-const LONGEST_COLUMN: usize = 93;
+const LONGEST_REACHING_WORD: usize = *sheets::REACHING_LENGTHS.end();
+const LONGEST_COLUMN: usize = *sheets::COLUMN_LENGTHS.end();
 
 /// The cases that no seed changes: the paper's sheets about M1, every small damage of its proof sheet, bad
 /// machines together with good and bad sheets, and the longest sheet.
@@ -85,8 +83,8 @@ fn longest() -> (OwnedMachine, Parts) {
         .clone()
         .map(|state| filled(state, LONGEST_REACHING_WORD));
     // 47 columns are enough, so the first one stands there several times.
-    let spare = MOST_COLUMNS - (MAX_STATES - 1);
-    let columns = (0..MOST_COLUMNS).map(|column| {
+    let spare = MAX_COLUMNS - (MAX_STATES - 1);
+    let columns = (0..MAX_COLUMNS).map(|column| {
         let zeros = (column + 1).saturating_sub(spare).max(1);
         filled(zeros, LONGEST_COLUMN)
     });
@@ -211,7 +209,7 @@ fn with_columns_dropped(parts: &Parts, _: &OwnedMachine, rng: &mut Rng) -> Parts
 fn with_a_column_duplicated(parts: &Parts, _: &OwnedMachine, rng: &mut Rng) -> Parts {
     let mut changed = parts.clone();
     let count = changed.columns.len();
-    if (1..MOST_COLUMNS).contains(&count) {
+    if (1..MAX_COLUMNS).contains(&count) {
         let column = rng.choose(&changed.columns);
         changed.columns.insert(rng.below(count + 1), column);
     }
@@ -228,7 +226,7 @@ fn with_columns_permuted(parts: &Parts, _: &OwnedMachine, rng: &mut Rng) -> Part
 fn with_other_columns(parts: &Parts, _: &OwnedMachine, rng: &mut Rng) -> Parts {
     let mut changed = parts.clone();
     let longest = rng.choose(&[2, 8, LONGEST_COLUMN]);
-    let count = rng.below(MOST_COLUMNS + 1);
+    let count = rng.below(MAX_COLUMNS + 1);
     changed.columns = (0..count)
         .map(|_| {
             let length = 1 + rng.below(longest);
