@@ -270,7 +270,11 @@ fn reached_in_order(machine: Machine<'_>) -> Vec<(usize, Vec<u8>)> {
 }
 
 /// The proof sheet at Done: the conjecture numbered anew by least words instead of S's order.
-fn finished_sheet(machine: Machine<'_>, conjecture: Machine<'_>, columns: &[Vec<u8>]) -> Vec<u8> {
+pub(crate) fn finished_sheet(
+    machine: Machine<'_>,
+    conjecture: Machine<'_>,
+    columns: &[Vec<u8>],
+) -> Vec<u8> {
     let (old_numbers, reaching_words): (Vec<usize>, Vec<Vec<u8>>) =
         reached_in_order(conjecture).into_iter().unzip();
     let model = renumbered(conjecture, &old_numbers);
@@ -278,7 +282,7 @@ fn finished_sheet(machine: Machine<'_>, conjecture: Machine<'_>, columns: &[Vec<
     sheets::proof_sheet(model.lend(), &reaching_words, columns, &state_map)
 }
 
-/// The machine whose state i is the old state at place i of the list; the list holds every state.
+/// The machine whose state i is the old state at place i of the list; the list holds every reachable state.
 fn renumbered(machine: Machine<'_>, old_numbers: &[usize]) -> OwnedMachine {
     let mut new_numbers = vec![0; machine.states()];
     for (new, &old) in old_numbers.iter().enumerate() {

@@ -6,8 +6,8 @@ use crate::sheets::NO_STATE;
 use crate::words::{compare, joined};
 use std::collections::{BTreeSet, HashMap};
 
-/// A model numbered by least words, with these words and the map from the machine's states.
-pub struct Numbered {
+/// The smallest model numbered by least words, with these words and the map from the machine's states.
+pub struct Smallest {
     pub model: OwnedMachine,
     pub reaching_words: Vec<Vec<u8>>,
     pub state_map: Vec<u8>,
@@ -76,38 +76,10 @@ fn refined(machine: Machine<'_>, class: &[usize]) -> Vec<usize> {
 }
 
 /// The smallest model of a machine.
-pub fn smallest(machine: Machine<'_>) -> Numbered {
-    numbered(machine, &classes(machine))
-}
-
-/// The reachable part of a machine, in which equal states stay apart.
-pub fn reachable_part(machine: Machine<'_>) -> Numbered {
-    let alone: Vec<usize> = (0..machine.states()).collect();
-    numbered(machine, &alone)
-}
-
-/// Whether a model answers every word as the machine does, with the fewest states.
-pub fn is_smallest_model(model: Machine<'_>, machine: Machine<'_>) -> bool {
-    equal(model, machine) && model.states() == size(machine)
-}
-
-/// How many states a smallest model has: the classes with a reachable state.
-pub fn size(machine: Machine<'_>) -> usize {
-    let class = classes(machine);
-    let mut met = BTreeSet::from([0]);
-    let mut waiting = vec![0];
-    while let Some(state) = waiting.pop() {
-        let nexts = machine.alphabet().map(|letter| machine.next(state, letter));
-        waiting.extend(nexts.filter(|&next| met.insert(next)));
-    }
-    let classes: BTreeSet<usize> = met.into_iter().map(|state| class[state]).collect();
-    classes.len()
-}
-
-/// The model that has one state for each class with a reachable state.
-fn numbered(machine: Machine<'_>, class: &[usize]) -> Numbered {
+pub fn smallest(machine: Machine<'_>) -> Smallest {
     let words = least_words(machine);
-    let chosen = least_states(&words, class);
+    let class = classes(machine);
+    let chosen = least_states(&words, &class);
     let number_of = |state: usize| {
         chosen
             .iter()
@@ -128,11 +100,29 @@ fn numbered(machine: Machine<'_>, class: &[usize]) -> Numbered {
         })
         .collect();
     let reaching_words = chosen.iter().map(|(_, word)| word.clone()).collect();
-    Numbered {
+    Smallest {
         model,
         reaching_words,
         state_map,
     }
+}
+
+/// Whether a model answers every word as the machine does, with the fewest states.
+pub fn is_smallest_model(model: Machine<'_>, machine: Machine<'_>) -> bool {
+    equal(model, machine) && model.states() == size(machine)
+}
+
+/// How many states a smallest model has: the classes with a reachable state.
+pub fn size(machine: Machine<'_>) -> usize {
+    let class = classes(machine);
+    let mut met = BTreeSet::from([0]);
+    let mut waiting = vec![0];
+    while let Some(state) = waiting.pop() {
+        let nexts = machine.alphabet().map(|letter| machine.next(state, letter));
+        waiting.extend(nexts.filter(|&next| met.insert(next)));
+    }
+    let classes: BTreeSet<usize> = met.into_iter().map(|state| class[state]).collect();
+    classes.len()
 }
 
 /// For each class with a reachable state the state of least word, in the order of these words.
@@ -156,7 +146,8 @@ pub fn equal(left: Machine<'_>, right: Machine<'_>) -> bool {
 /// Whether two machines over the same letters answer every word alike from the given states: looks at every
 /// pair of states met together.
 pub fn equal_from(left: Machine<'_>, right: Machine<'_>, pair: (usize, usize)) -> bool {
-    let mut met = BTreeSet::from([pair]);
+    let mut is_met = vec![vec![false; right.states()]; left.states()];
+    is_met[pair.0][pair.1] = true;
     let mut waiting = vec![pair];
     while let Some((of_left, of_right)) = waiting.pop() {
         for letter in left.alphabet() {
@@ -164,7 +155,8 @@ pub fn equal_from(left: Machine<'_>, right: Machine<'_>, pair: (usize, usize)) -
                 return false;
             }
             let pair = (left.next(of_left, letter), right.next(of_right, letter));
-            if met.insert(pair) {
+            if !is_met[pair.0][pair.1] {
+                is_met[pair.0][pair.1] = true;
                 waiting.push(pair);
             }
         }

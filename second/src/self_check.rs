@@ -5,7 +5,7 @@ use crate::checker;
 use crate::generator::{self, Damage, Kind, Rng};
 use crate::learner::{self, Answer, MAX_ROUNDS, TABLE_AREA};
 use crate::machine::{self, Machine, OwnedMachine, MAX_STATES, WORD_AREA};
-use crate::minimise::{self, Numbered};
+use crate::minimise::{self, Smallest};
 use crate::refusal;
 use crate::sheets::{self, Counts, ProofSheet, MACHINE_SHEET_AREA, MAX_COLUMNS, PROOF_SHEET_AREA};
 use crate::words::joined;
@@ -170,7 +170,7 @@ fn count_answer(learnt: &Learnt, totals: &mut Totals, place: usize) {
 }
 
 /// The minimiser itself: its model is equal to the machine and none of its states is spare.
-fn check_minimiser(machine: &OwnedMachine, smallest: &Numbered) -> Result<(), String> {
+fn check_minimiser(machine: &OwnedMachine, smallest: &Smallest) -> Result<(), String> {
     ensure(
         minimise::equal(machine.lend(), smallest.model.lend()),
         "the minimised machine is not equal",
@@ -189,7 +189,7 @@ fn check_minimiser(machine: &OwnedMachine, smallest: &Numbered) -> Result<(), St
 /// Machine and smallest model answer some questions alike, put as a caller puts them.
 fn check_questions(
     machine: &OwnedMachine,
-    smallest: &Numbered,
+    smallest: &Smallest,
     rng: &mut Rng,
 ) -> Result<(), String> {
     for _ in 0..10 {
@@ -243,7 +243,7 @@ fn cells_by_formula(states: usize, k: usize, rounds: usize) -> usize {
 }
 
 /// A Done answer in full: counts, model, numbering, words, state map, reader, records and checker.
-fn check_done(machine: &OwnedMachine, learnt: &Learnt, smallest: &Numbered) -> Result<(), String> {
+fn check_done(machine: &OwnedMachine, learnt: &Learnt, smallest: &Smallest) -> Result<(), String> {
     let Answer::Done {
         states,
         rounds,
@@ -298,7 +298,7 @@ fn check_done(machine: &OwnedMachine, learnt: &Learnt, smallest: &Numbered) -> R
     )
 }
 
-fn check_records(sheet: &[u8], smallest: &Numbered) -> Result<(), String> {
+fn check_records(sheet: &[u8], smallest: &Smallest) -> Result<(), String> {
     for (state, word) in smallest.reaching_words.iter().enumerate() {
         let record = [b"AW", &[word.len() as u8][..], word].concat();
         ensure(
@@ -481,7 +481,7 @@ fn check_stop(machine: &OwnedMachine, learnt: &Learnt, replay: &Replay<'_>) -> R
 fn check_limits(
     machine: &OwnedMachine,
     full: &Learnt,
-    smallest: &Numbered,
+    smallest: &Smallest,
     columns: &[Vec<u8>],
     (totals, place): (&mut Totals, usize),
     rng: &mut Rng,
@@ -550,7 +550,7 @@ fn check_limit(
     machine: &OwnedMachine,
     limited: &Learnt,
     unlimited: &Learnt,
-    smallest: &Numbered,
+    smallest: &Smallest,
     l: usize,
 ) -> Result<(), String> {
     let (Answer::Done { states, .. } | Answer::Open { states, .. }) = unlimited.answer else {

@@ -5,8 +5,9 @@ use super::case::{Case, Lent};
 use super::lent::{bad_machines, damaged, every_small_damage, m1, proof_sheet};
 use crate::cases;
 use crate::generator::{self, Kind, Rng};
+use crate::learner;
 use crate::machine::{transition, OwnedMachine, MAX_LETTERS, MAX_STATES};
-use crate::minimise::{self, Numbered};
+use crate::minimise;
 use crate::sheets::{self, MAX_COLUMNS, NO_STATE};
 
 /// How often the bytes of a generated machine's sheets are damaged.
@@ -289,19 +290,10 @@ fn with_another_transition(parts: &Parts, _: &OwnedMachine, rng: &mut Rng) -> Pa
     }
 }
 
-/// The machine's whole reachable part for a model: equal states are not told apart.
+/// The sheet of a learner that takes the machine itself for its model: equal states are not told apart.
 fn with_equal_states(parts: &Parts, machine: &OwnedMachine, _: &mut Rng) -> Parts {
-    let Numbered {
-        model,
-        reaching_words,
-        state_map,
-    } = minimise::reachable_part(machine.lend());
-    Parts {
-        model,
-        reaching_words,
-        state_map,
-        columns: parts.columns.clone(),
-    }
+    let (machine, columns) = (machine.lend(), &parts.columns);
+    Parts::of(&learner::finished_sheet(machine, machine, columns))
 }
 
 /// A copy that has one transition with another output or another next state.
