@@ -252,55 +252,61 @@ fn rewritten(sheet: &[u8]) -> Result<Vec<u8>, u8> {
     Ok(area[..length].to_vec())
 }
 
-fn checker_cases() -> Vec<Case> {
-    let proof = bytes(M1_PROOF);
-    let two_columns = "PH 03 02 04 02";
+/// M1's proof sheet and copies written otherwise, each with what the checker says to it.
+pub(crate) fn checked_sheets() -> Vec<(&'static str, Result<(), u8>, Vec<u8>)> {
     let without = |column: &str| {
-        let shorter = M1_PROOF.replace("PH 03 02 04 03", two_columns);
+        let shorter = M1_PROOF.replace("PH 03 02 04 03", "PH 03 02 04 02");
         bytes(&shorter.replace(column, " "))
     };
+    let with_map = |map: &str| proof_with("SM 00 01 02 FF", map);
+    let another_n = M1_PROOF.replace("PH 03 02 04", "PH 03 02 03");
     vec![
-        case("The M1 proof sheet has 55 bytes", 55, proof.len()),
-        case("P the M1 proof sheet is accepted", Ok(()), check_m1(&proof)),
-        case(
+        ("P the M1 proof sheet is accepted", Ok(()), bytes(M1_PROOF)),
+        (
             "P without the CW for letter 1 (c = 2): accepted",
             Ok(()),
-            check_m1(&without("CW 01 01 ")),
+            without("CW 01 01 "),
         ),
-        case(
+        (
             "P without the CW of two letters: 13",
             Err(13),
-            check_m1(&without("CW 02 00 00 ")),
+            without("CW 02 00 00 "),
         ),
-        case(
+        (
             "P with AW 01 00 for state 2: 12",
             Err(12),
-            check_m1(&proof_with("AW 02 00 00", "AW 01 00")),
+            proof_with("AW 02 00 00", "AW 01 00"),
         ),
-        case(
+        (
             "P with SM 00 01 02 02: 14",
             Err(14),
-            check_m1(&proof_with("SM 00 01 02 FF", "SM 00 01 02 02")),
+            with_map("SM 00 01 02 02"),
         ),
-        case(
+        (
             "With SM FF FF FF FF, no model state for the start: 14",
             Err(14),
-            check_m1(&proof_with("SM 00 01 02 FF", "SM FF FF FF FF")),
+            with_map("SM FF FF FF FF"),
         ),
-        case(
+        (
             "With SM 00 01 FF FF, none for a state that is reached: 14",
             Err(14),
-            check_m1(&proof_with("SM 00 01 02 FF", "SM 00 01 FF FF")),
+            with_map("SM 00 01 FF FF"),
         ),
-        case(
+        (
             "With another n: 11",
             Err(11),
-            check_m1(&bytes(
-                &M1_PROOF
-                    .replace("PH 03 02 04", "PH 03 02 03")
-                    .replace(" FF", ""),
-            )),
+            bytes(&another_n.replace(" FF", "")),
         ),
+    ]
+}
+
+fn checker_cases() -> Vec<Case> {
+    let proof = bytes(M1_PROOF);
+    let mut cases = vec![case("The M1 proof sheet has 55 bytes", 55, proof.len())];
+    for (name, due, sheet) in checked_sheets() {
+        cases.push(case(name, due, check_m1(&sheet)));
+    }
+    cases.extend([
         case(
             "The M1 proof sheet read: m, k, n, c",
             Ok(Counts {
@@ -321,7 +327,8 @@ fn checker_cases() -> Vec<Case> {
             vec![],
             sheets::aw_record(&proof, 3).to_vec(),
         ),
-    ]
+    ]);
+    cases
 }
 
 /// A refusal of the learner that changes no lent byte.

@@ -114,6 +114,11 @@ pub fn machine(kind: Kind, rng: &mut Rng) -> OwnedMachine {
     }
 }
 
+/// The kinds take turns: the machine of a number.
+pub fn in_turn(number: usize, rng: &mut Rng) -> OwnedMachine {
+    machine(Kind::ALL[number % Kind::ALL.len()], rng)
+}
+
 /// A size from 1 to the greatest; the greatest and the small ones come more often than by chance.
 fn size(rng: &mut Rng, greatest: usize) -> usize {
     match rng.below(6) {
@@ -180,6 +185,16 @@ fn ring(rng: &mut Rng) -> OwnedMachine {
         };
         let is_odd = state == odd_state && letter == odd_letter;
         (if is_odd { odd } else { plain }, next)
+    })
+}
+
+/// A ring of 48 states in which letter 0 goes forward and the others stay; on 0 one state has the odd output.
+/// Such a ring takes the most rounds and the longest counterexamples, and with 12 letters fills the table.
+pub fn great_ring(k: usize, odd_state: usize) -> OwnedMachine {
+    OwnedMachine::build(MAX_STATES, k, |state, letter| {
+        let is_odd = letter == 0 && state == odd_state;
+        let next = if letter == 0 { state + 1 } else { state };
+        (u8::from(is_odd), next % MAX_STATES)
     })
 }
 

@@ -3,14 +3,12 @@
 
 use crate::machine::{Machine, OwnedMachine, MAX_STATES};
 use crate::refusal;
-use crate::sheets;
+use crate::sheets::{self, MAX_COLUMNS};
 use crate::words::joined;
 use std::collections::VecDeque;
 
 pub const MAX_ROUNDS: usize = 47;
 pub const MAX_ROWS: usize = 577;
-/// Also the distance from one row to the next in the table area, whatever k is.
-pub const MAX_COLUMNS: usize = 59;
 pub const TABLE_AREA: usize = MAX_ROWS * MAX_COLUMNS;
 
 /// Done and Open each give the words in S, the rounds past, the cells, and the bytes written to the
@@ -222,6 +220,7 @@ impl<'a> Table<'a> {
     fn leave_cells(&self, area: &mut [u8]) {
         area[..TABLE_AREA].fill(0);
         for (number, row) in self.rows.iter().enumerate() {
+            // The distance from one row to the next is the same whatever k is.
             put(&mut area[number * MAX_COLUMNS..], &row.cells);
         }
     }
@@ -271,7 +270,11 @@ fn reached_in_order(machine: Machine<'_>) -> Vec<(usize, Vec<u8>)> {
 }
 
 /// The proof sheet at Done: the conjecture numbered anew by least words instead of S's order.
-fn finished_sheet(machine: Machine<'_>, conjecture: Machine<'_>, columns: &[Vec<u8>]) -> Vec<u8> {
+pub(crate) fn finished_sheet(
+    machine: Machine<'_>,
+    conjecture: Machine<'_>,
+    columns: &[Vec<u8>],
+) -> Vec<u8> {
     let (old_numbers, reaching_words): (Vec<usize>, Vec<Vec<u8>>) =
         reached_in_order(conjecture).into_iter().unzip();
     let model = renumbered(conjecture, &old_numbers);
@@ -279,7 +282,7 @@ fn finished_sheet(machine: Machine<'_>, conjecture: Machine<'_>, columns: &[Vec<
     sheets::proof_sheet(model.lend(), &reaching_words, columns, &state_map)
 }
 
-/// The machine whose state i is the old state at place i of the list; the list holds every state.
+/// The machine whose state i is the old state at place i of the list; the list holds every reachable state.
 fn renumbered(machine: Machine<'_>, old_numbers: &[usize]) -> OwnedMachine {
     let mut new_numbers = vec![0; machine.states()];
     for (new, &old) in old_numbers.iter().enumerate() {

@@ -8,6 +8,7 @@ pub mod generator;
 pub mod learner;
 pub mod machine;
 pub mod minimise;
+pub mod openfst;
 pub mod program;
 pub mod refusal;
 pub mod self_check;

@@ -1,13 +1,18 @@
 //! The program: the paper's cases, self checks over generated machines, the comparison with the proved
-//! program, and the paper's `learn`.
+//! program, machines for OpenFst, and the paper's `learn`.
 
 use second::compare::case::Operation;
+use second::compare::exchange;
+use second::compare::family::{Family, Plan};
+use second::compare::soak::{self, Soaked};
 use second::compare::{Compared, Difference};
 use second::generator::Kind;
 use second::self_check::{Answers, Totals};
-use second::{cases, compare, program, self_check};
+use second::{cases, compare, openfst, program, self_check};
 use std::fmt::Write as _;
+use std::fs;
 use std::io::{self, Read, Write as _};
+use std::path::Path;
 use std::process::ExitCode;
 
 const HELP: &str = "\
@@ -15,9 +20,17 @@ second: an independent learner of Mealy machines, to be compared with another on
 
 second cases              run every case of the paper, one line each
 second random SEED COUNT  run self checks over COUNT machines generated from SEED
-second compare SEED COUNT PROGRAM..
+second compare FAMILY SEED COUNT PROGRAM..
                           hold every answer of the proved program, run by the words PROGRAM.., against
-                          this program's own: over M1's sheets and COUNT machines generated from SEED
+                          this program's own: over M1's sheets, the paper's limits and COUNT machines
+                          generated from SEED; FAMILY is sheets, learner, checker or all
+second soak SEED SECONDS PROGRAM..
+                          compare all families with the seeds SEED, SEED + 1, .. until the time is over
+second answers            answer cases on standard input as the proved program does, which tries the
+                          comparison itself
+second openfst SEED COUNT DIRECTORY PROGRAM..
+                          write COUNT machines generated from SEED to DIRECTORY in OpenFst's text form,
+                          and print each one's file and the states of the model that PROGRAM.. learns
 second learn              read a machine sheet on standard input, print its model or refusal
 second --help             print this
 ";
@@ -51,12 +64,27 @@ fn command(arguments: &[String]) -> Result<Outcome, String> {
         ["cases"] => Ok(run_cases()),
         ["random", seed, count] => run_random(number("SEED", seed)?, number("COUNT", count)?),
         ["random", ..] => Err("random takes a SEED and a COUNT".to_string()),
-        ["compare", seed, count, ref program @ ..] if !program.is_empty() => {
-            run_compare(number("SEED", seed)?, number("COUNT", count)?, program)
+        ["compare", family, seed, count, ref program @ ..] if !program.is_empty() => run_compare(
+            families(family)?,
+            number("SEED", seed)?,
+            number("COUNT", count)?,
+            program,
+        ),
+        ["compare", ..] => Err("compare takes a FAMILY, a SEED, a COUNT and a PROGRAM".to_string()),
+        ["soak", seed, seconds, ref program @ ..] if !program.is_empty() => {
+            run_soak(number("SEED", seed)?, number("SECONDS", seconds)?, program)
         }
-        ["compare", ..] => Err("compare takes a SEED, a COUNT and a PROGRAM".to_string()),
+        ["soak", ..] => Err("soak takes a SEED, SECONDS and a PROGRAM".to_string()),
+        ["answers"] => run_answers(),
+        ["openfst", seed, count, directory, ref program @ ..] if !program.is_empty() => {
+            let (seed, count) = (number("SEED", seed)?, number("COUNT", count)?);
+            run_openfst(seed, count, Path::new(directory), program)
+        }
+        ["openfst", ..] => {
+            Err("openfst takes a SEED, a COUNT, a DIRECTORY and a PROGRAM".to_string())
+        }
         ["learn"] => run_learn(),
-        ["cases" | "learn" | "--help" | "-h", ..] => {
+        ["cases" | "answers" | "learn" | "--help" | "-h", ..] => {
             Err(format!("{} takes no further argument", arguments[0]))
         }
         [other, ..] => Err(format!("there is no command {other}")),
@@ -193,27 +221,48 @@ fn sheets_text(name: &str, counts: &[usize]) -> String {
     text
 }
 
-fn run_compare(seed: u64, count: u64, program: &[&str]) -> Result<Outcome, String> {
-    let compared = compare::run(seed, machines(count)?, program)?;
+/// The families that a word names.
+fn families(word: &str) -> Result<Vec<Family>, String> {
+    let named = |family: &Family| word == "all" || word == family.name();
+    let families: Vec<Family> = Family::ALL.into_iter().filter(named).collect();
+    if families.is_empty() {
+        return Err(format!("there is no family {word}"));
+    }
+    Ok(families)
+}
+
+fn run_compare(
+    families: Vec<Family>,
+    seed: u64,
+    count: u64,
+    program: &[&str],
+) -> Result<Outcome, String> {
+    let plan = Plan {
+        families,
+        has_fixed: true,
+        seed,
+        count: machines(count)?,
+    };
+    let mut compared = compare::run(&plan, program)?;
+    compared.require_every_outcome(&plan.families);
     Ok(Outcome {
-        text: compared_text(&compared),
+        text: compared_text(&compared) + &plan_text(&plan, &compared),
         is_right: compared.is_right(),
     })
 }
 
+fn plan_text(plan: &Plan, compared: &Compared) -> String {
+    let names: Vec<&str> = plan.families.iter().map(|family| family.name()).collect();
+    let Plan { seed, count, .. } = plan;
+    let Compared { cases, differ, .. } = compared;
+    let (names, kinds) = (names.join(", "), Kind::ALL.len());
+    format!(
+        "{names}: {count} machines of {kinds} kinds from seed {seed}, {cases} cases, {differ} differ\n"
+    )
+}
+
 fn compared_text(compared: &Compared) -> String {
     let mut text = String::new();
-    for operation in Operation::ALL {
-        let outcomes = compared.by_outcome.iter();
-        let met: Vec<String> = outcomes
-            .filter(|((of, _), _)| *of == operation)
-            .map(|((_, outcome), count)| format!("{count} {outcome}"))
-            .collect();
-        line(
-            &mut text,
-            &format!("{}: {}", operation.name(), met.join(", ")),
-        );
-    }
     for Difference {
         case,
         expected,
@@ -221,15 +270,97 @@ fn compared_text(compared: &Compared) -> String {
     } in &compared.differences
     {
         line(&mut text, &format!("DIFFERS  {case:?}"));
-        line(&mut text, &format!("    expected {expected:?}"));
-        line(&mut text, &format!("    found    {found:?}"));
+        line(&mut text, &difference_text(expected, found));
     }
-    if let Some(why) = &compared.stopped {
-        line(&mut text, &format!("WRONG  {why}"));
+    for why in &compared.wrong {
+        line(&mut text, &format!("WRONG  {}", shortened(why)));
     }
-    let Compared { cases, differ, .. } = compared;
-    line(&mut text, &format!("{cases} cases, {differ} differ"));
+    for operation in Operation::ALL {
+        let outcomes = compared.outcomes(operation).into_iter();
+        let met: Vec<String> = outcomes
+            .map(|(outcome, count)| format!("{count} {outcome}"))
+            .collect();
+        if !met.is_empty() {
+            line(
+                &mut text,
+                &format!("{}: {}", operation.name(), met.join(", ")),
+            );
+        }
+    }
+    if compared.smallest_models > 0 {
+        let count = compared.smallest_models;
+        line(
+            &mut text,
+            &format!("{count} accepted sheets searched: each model is equal to its machine and as small as the minimised one"),
+        );
+    }
     text
+}
+
+/// The heads of two answers, and the first place where they differ: whole areas are too long to read.
+fn difference_text(expected: &[u8], found: &[u8]) -> String {
+    const SHOWN: usize = 24;
+    let from = |answer: &[u8], place: usize| {
+        let end = answer.len().min(place + SHOWN);
+        format!("{:?}", &answer[place.min(end)..end])
+    };
+    let pairs = expected.iter().zip(found);
+    let same = pairs.take_while(|(left, right)| left == right).count();
+    format!(
+        "    expected {}, {} bytes\n    found    {}, {} bytes\n    from byte {same}: expected {}, found {}",
+        from(expected, 0),
+        expected.len(),
+        from(found, 0),
+        found.len(),
+        from(expected, same),
+        from(found, same),
+    )
+}
+
+fn run_soak(seed: u64, seconds: u64, program: &[&str]) -> Result<Outcome, String> {
+    let soaked = soak::soak(seed, seconds, program, &mut |soaked| {
+        println!("{}", soaked_text(seed, soaked));
+    })?;
+    let mut text = compared_text(&soaked.compared);
+    line(&mut text, &soaked_text(seed, &soaked));
+    Ok(Outcome {
+        text,
+        is_right: soaked.compared.is_right(),
+    })
+}
+
+fn soaked_text(seed: u64, soaked: &Soaked) -> String {
+    let Soaked {
+        turns,
+        seconds,
+        compared: Compared { cases, differ, .. },
+    } = soaked;
+    let last = seed.wrapping_add(turns - 1);
+    format!("{seconds} s: seeds {seed} to {last}, {cases} cases, {differ} differ")
+}
+
+fn run_answers() -> Result<Outcome, String> {
+    exchange::answer_all(io::stdin().lock(), io::stdout().lock())
+        .map_err(|error| format!("cannot answer: {error}"))?;
+    Ok(right(String::new()))
+}
+
+fn run_openfst(
+    seed: u64,
+    count: u64,
+    directory: &Path,
+    program: &[&str],
+) -> Result<Outcome, String> {
+    let machines = openfst::machines(seed, machines(count)?);
+    let sizes = openfst::sizes(&machines, program)?;
+    let mut text = String::new();
+    for (number, (machine, size)) in machines.iter().zip(sizes).enumerate() {
+        let file = directory.join(format!("{number}.txt"));
+        fs::write(&file, openfst::text(machine.lend()))
+            .map_err(|error| format!("cannot write {}: {error}", file.display()))?;
+        line(&mut text, &format!("{} {size}", file.display()));
+    }
+    Ok(right(text))
 }
 
 fn run_learn() -> Result<Outcome, String> {

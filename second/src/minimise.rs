@@ -107,6 +107,24 @@ pub fn smallest(machine: Machine<'_>) -> Smallest {
     }
 }
 
+/// Whether a model answers every word as the machine does, with the fewest states.
+pub fn is_smallest_model(model: Machine<'_>, machine: Machine<'_>) -> bool {
+    equal(model, machine) && model.states() == size(machine)
+}
+
+/// How many states a smallest model has: the classes with a reachable state.
+pub fn size(machine: Machine<'_>) -> usize {
+    let class = classes(machine);
+    let mut met = BTreeSet::from([0]);
+    let mut waiting = vec![0];
+    while let Some(state) = waiting.pop() {
+        let nexts = machine.alphabet().map(|letter| machine.next(state, letter));
+        waiting.extend(nexts.filter(|&next| met.insert(next)));
+    }
+    let classes: BTreeSet<usize> = met.into_iter().map(|state| class[state]).collect();
+    classes.len()
+}
+
 /// For each class with a reachable state the state of least word, in the order of these words.
 fn least_states(words: &[Option<Vec<u8>>], class: &[usize]) -> Vec<(usize, Vec<u8>)> {
     let mut reached: Vec<(usize, Vec<u8>)> = words
@@ -120,20 +138,25 @@ fn least_states(words: &[Option<Vec<u8>>], class: &[usize]) -> Vec<(usize, Vec<u
     reached
 }
 
-/// Whether two machines answer every word alike: looks at every pair of states met together.
+/// Whether two machines answer every word alike.
 pub fn equal(left: Machine<'_>, right: Machine<'_>) -> bool {
-    if left.letters() != right.letters() {
-        return false;
-    }
-    let mut met = BTreeSet::from([(0, 0)]);
-    let mut waiting = vec![(0, 0)];
+    left.letters() == right.letters() && equal_from(left, right, (0, 0))
+}
+
+/// Whether two machines over the same letters answer every word alike from the given states: looks at every
+/// pair of states met together.
+pub fn equal_from(left: Machine<'_>, right: Machine<'_>, pair: (usize, usize)) -> bool {
+    let mut is_met = vec![vec![false; right.states()]; left.states()];
+    is_met[pair.0][pair.1] = true;
+    let mut waiting = vec![pair];
     while let Some((of_left, of_right)) = waiting.pop() {
         for letter in left.alphabet() {
             if left.output(of_left, letter) != right.output(of_right, letter) {
                 return false;
             }
             let pair = (left.next(of_left, letter), right.next(of_right, letter));
-            if met.insert(pair) {
+            if !is_met[pair.0][pair.1] {
+                is_met[pair.0][pair.1] = true;
                 waiting.push(pair);
             }
         }

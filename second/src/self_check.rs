@@ -3,11 +3,11 @@
 
 use crate::checker;
 use crate::generator::{self, Damage, Kind, Rng};
-use crate::learner::{self, Answer, MAX_COLUMNS, MAX_ROUNDS, TABLE_AREA};
+use crate::learner::{self, Answer, MAX_ROUNDS, TABLE_AREA};
 use crate::machine::{self, Machine, OwnedMachine, MAX_STATES, WORD_AREA};
 use crate::minimise::{self, Smallest};
 use crate::refusal;
-use crate::sheets::{self, Counts, ProofSheet, MACHINE_SHEET_AREA, PROOF_SHEET_AREA};
+use crate::sheets::{self, Counts, ProofSheet, MACHINE_SHEET_AREA, MAX_COLUMNS, PROOF_SHEET_AREA};
 use crate::words::joined;
 use std::collections::BTreeSet;
 
@@ -145,19 +145,9 @@ fn check_machine(
         let damaged = generator::damaged(damage, &machine_sheet, rng);
         check_damaged_machine_sheet(&damaged, totals, rng)?;
         let damaged = generator::damaged(damage, full.sheet_written(), rng);
-        check_any_proof_sheet(
-            machine,
-            &damaged,
-            &smallest,
-            &mut totals.damaged_proof_sheets,
-        )?;
+        check_any_proof_sheet(machine, &damaged, &mut totals.damaged_proof_sheets)?;
     }
-    check_any_proof_sheet(
-        machine,
-        other_sheet,
-        &smallest,
-        &mut totals.other_proof_sheets,
-    )?;
+    check_any_proof_sheet(machine, other_sheet, &mut totals.other_proof_sheets)?;
     Ok(full.sheet_written().to_vec())
 }
 
@@ -189,6 +179,10 @@ fn check_minimiser(machine: &OwnedMachine, smallest: &Smallest) -> Result<(), St
     ensure(
         again.model == smallest.model,
         "minimising again changes the model",
+    )?;
+    ensure(
+        minimise::size(machine.lend()) == smallest.model.n,
+        "the minimised machine has another size",
     )
 }
 
@@ -635,7 +629,6 @@ fn check_damaged_machine_sheet(
 fn check_any_proof_sheet(
     machine: &OwnedMachine,
     sheet: &[u8],
-    smallest: &Smallest,
     totals: &mut [usize; 15],
 ) -> Result<(), String> {
     let read = sheets::parse_proof_sheet(sheet);
@@ -660,9 +653,7 @@ fn check_any_proof_sheet(
         "the checker's answer is not the one due",
     )?;
     ensure(
-        checked.is_err()
-            || proof.model.n == smallest.model.n
-                && minimise::equal(proof.model.lend(), machine.lend()),
+        checked.is_err() || minimise::is_smallest_model(proof.model.lend(), machine.lend()),
         "an accepted sheet does not hold a smallest model",
     )
 }

@@ -20,9 +20,9 @@ const COLUMN_WORD: &[u8; 2] = b"CW";
 const STATE_MAP: &[u8; 2] = b"SM";
 const COUNTEREXAMPLE: &[u8; 2] = b"CX";
 
-const MAX_COLUMNS: usize = 59;
-const REACHING_LENGTHS: RangeInclusive<usize> = 0..=47;
-const COLUMN_LENGTHS: RangeInclusive<usize> = 1..=93;
+pub const MAX_COLUMNS: usize = 59;
+pub const REACHING_LENGTHS: RangeInclusive<usize> = 0..=47;
+pub const COLUMN_LENGTHS: RangeInclusive<usize> = 1..=93;
 
 /// What reading a proof sheet gives: states of the model, letters, states of the machine, columns.
 #[derive(Clone, Copy, Debug, PartialEq, Eq)]

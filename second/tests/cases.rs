@@ -1,9 +1,9 @@
 //! Every case of the paper, the self checks with a fixed seed, and the program's bad uses.
 
 use second::learner::{learn, Answer, MAX_ROUNDS, TABLE_AREA};
-use second::machine::{OwnedMachine, MAX_STATES};
+use second::machine::MAX_STATES;
 use second::sheets::PROOF_SHEET_AREA;
-use second::{cases, self_check};
+use second::{cases, generator, self_check};
 use std::process::Command;
 
 #[test]
@@ -33,9 +33,7 @@ fn rings_reach_the_longest_counterexample() {
     let mut sheet = vec![0; PROOF_SHEET_AREA];
     let mut longest = 0;
     for odd in 0..MAX_STATES {
-        let ring = OwnedMachine::build(MAX_STATES, 1, |state, _| {
-            (u8::from(state == odd), (state + 1) % MAX_STATES)
-        });
+        let ring = generator::great_ring(1, odd);
         for r in 0..=MAX_ROUNDS {
             let answer = learn(&ring.words, 48, 1, 48, r, &mut table, &mut sheet);
             if let Answer::Open { bytes, .. } = answer {
@@ -71,24 +69,51 @@ fn the_program_runs_its_cases() {
 #[test]
 fn a_program_that_answers_otherwise_is_found_out() {
     for program in ["true", "cat"] {
-        let (success, printed, _) = second(&["compare", "1", "1", program]);
+        let (success, printed, _) = second(&["compare", "sheets", "1", "1", program]);
         assert!(!success && printed.contains("WRONG  there is no answer to "));
     }
-    assert!(second(&["compare", "1", "1", "cat"]).1.contains("DIFFERS"));
+    let (_, printed, _) = second(&["compare", "sheets", "1", "1", "cat"]);
+    assert!(printed.contains("DIFFERS"));
+    let (success, printed, _) = second(&["soak", "1", "60", "true"]);
+    assert!(!success && printed.ends_with(": seeds 1 to 1, 0 cases, 0 differ\n"));
+}
+
+/// The comparison, the soak and OpenFst's sizes with this program's own answers.
+#[test]
+fn the_program_agrees_with_itself() {
+    let program = env!("CARGO_BIN_EXE_second");
+    let (success, printed, _) = second(&["compare", "all", "3", "9", program, "answers"]);
+    assert!(
+        success && printed.ends_with(" cases, 0 differ\n"),
+        "{printed}"
+    );
+    let (success, printed, _) = second(&["soak", "3", "0", program, "answers"]);
+    assert!(
+        success && printed.ends_with(" cases, 0 differ\n"),
+        "{printed}"
+    );
+    let directory = env!("CARGO_TARGET_TMPDIR");
+    let (success, printed, _) = second(&["openfst", "3", "9", directory, program, "answers"]);
+    assert!(success);
+    assert_eq!(printed.lines().count(), 9);
 }
 
 #[test]
 fn bad_use_gives_one_line_and_fails() {
-    let bad_uses: [&[&str]; 9] = [
+    let bad_uses: [&[&str]; 13] = [
         &[],
         &["unknown"],
         &["cases", "more"],
         &["random", "1"],
         &["random", "1", "many"],
         &["random", "-1", "5"],
-        &["compare", "1", "1"],
-        &["compare", "1", "many", "cat"],
-        &["compare", "1", "1", "./no such program"],
+        &["compare", "all", "1", "1"],
+        &["compare", "all", "1", "many", "cat"],
+        &["compare", "none", "1", "1", "cat"],
+        &["compare", "all", "1", "1", "./no such program"],
+        &["soak", "1", "1"],
+        &["openfst", "1", "1", "."],
+        &["openfst", "1", "1", ".", "true"],
     ];
     for arguments in bad_uses {
         let (success, printed, complaint) = second(arguments);

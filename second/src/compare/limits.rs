@@ -1,7 +1,7 @@
 //! Sheets and words that are whole, with every count, length and value at the paper's limits and next to them.
 
-use super::case::Case;
-use super::made::{SHEET_AREAS, WORD_AREAS};
+use super::case::{Case, Lent};
+use super::reading::{SHEET_AREAS, WORD_AREAS};
 use crate::machine;
 
 const STATES: [u8; 4] = [0, 1, 48, 49];
@@ -11,7 +11,7 @@ const REACHING_LENGTHS: [u8; 3] = [0, 47, 48];
 const COLUMN_LENGTHS: [u8; 4] = [0, 1, 93, 94];
 
 /// Makes the cases of machine sheets, of lent words and of proof sheets.
-pub fn make(give: &mut impl FnMut(Case)) {
+pub fn make(give: &mut dyn FnMut(Case)) {
     for n in STATES {
         for k in LETTERS {
             for next in [0, n.saturating_sub(1), n] {
@@ -24,7 +24,7 @@ pub fn make(give: &mut impl FnMut(Case)) {
     }
 }
 
-fn machine_cases(n: u8, k: u8, next: u8, give: &mut impl FnMut(Case)) {
+fn machine_cases(n: u8, k: u8, next: u8, give: &mut dyn FnMut(Case)) {
     let mut sheet = [b"MH", &[n, k][..]].concat();
     sheet.extend(rows(n, k, next));
     with_neighbours(&sheet, |sheet| {
@@ -36,9 +36,13 @@ fn machine_cases(n: u8, k: u8, next: u8, give: &mut impl FnMut(Case)) {
     let count = (usize::from(n) * usize::from(k)).min(599);
     let words = vec![machine::transition(k, usize::from(next)); count];
     with_neighbours(&words, |words| {
+        let machine = Lent {
+            words: words.to_vec(),
+            n: u16::from(n),
+            k: u16::from(k),
+        };
         for area in SHEET_AREAS {
-            let counts = (u16::from(n), u16::from(k));
-            give(Case::write_machine(words, counts, area, n));
+            give(Case::write_machine(&machine, area, n));
         }
     });
 }
@@ -57,7 +61,7 @@ fn rows(count: u8, k: u8, next: u8) -> Vec<u8> {
     row.repeat(usize::from(count))
 }
 
-fn proof_cases(m: u8, k: u8, n: u8, give: &mut impl FnMut(Case)) {
+fn proof_cases(m: u8, k: u8, n: u8, give: &mut dyn FnMut(Case)) {
     for c in COLUMNS {
         for reaching in REACHING_LENGTHS {
             for column in COLUMN_LENGTHS {
