@@ -14,6 +14,7 @@ pub mod ProofAnswers
 pub mod Places
 pub mod ProofLaws
 pub mod Checker
+pub mod CheckerSteps
 pub mod Cases
 pub mod ProofCases
 pub mod Seen

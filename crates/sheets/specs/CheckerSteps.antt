@@ -1,0 +1,257 @@
+-- The checker step by step, as the code goes through it: what it holds of a sheet, where the words lie that it runs, and its loops.
+use mathlib.Core.Path.{_≡_, refl, sym, ap, _∙_, subst}
+use mathlib.Core.Logic.{_⊎_, inl, inr}
+use mathlib.Core.Bool.{Bool, true, false, not, _&&_, _||_, true≢false}
+use mathlib.Core.List.{List, [], _∷_, _++_}
+use Prim.Native.Nat.{ℕ, zero, suc, _+_, _*_, _-_, _≤_, _<_}
+use native.Mathlib.Nat.{not-suc-le-zero, le-of-suc-le-suc}
+use native.Mathlib.Numerals.{add-one}
+use native.Mathlib.Omega.{arith}
+use lib.ListN.{length, getD, take, drop, length-append, length-drop, drop-of-length-le}
+use lib.Seq.{drop-cons, drop-drop, drop-append-seam}
+use lib.Dec.{eqb, ltb}
+use Rattle.rules.specs.Tests.{outcome, and-split, or-split, eqb-true, eqb-false, ltb-yes, ltb-no, is-true, is-false, allFrom, all-true, true-all}
+use Rattle.rules.specs.Words.{Word, Below}
+use Rattle.rules.specs.Search.{walk}
+use Rattle.rules.specs.Machine.{Machine, lent, lastFrom}
+use Rattle.rules.specs.Answer.{Answer, refused, gives, demand, _>>_}
+use Rattle.rules.specs.Areas.{put}
+use Rattle.rules.specs.Sheets.{AW, CW, SM, Proof, wordBytes, wordsBytes}
+use Rattle.machine.specs.Lent.{link, lettersBelow, allPass, Sound}
+use Rattle.machine.specs.LentLaws.{below-letters}
+use Rattle.sheets.specs.Reading.{Parsed, bad, good}
+use Rattle.sheets.specs.Proofs.{mapByte, proofSheet, Counts, readProof}
+use Rattle.sheets.specs.Standing.{rowWords}
+use Rattle.sheets.specs.WordRecords.{Lies, fits-at}
+use Rattle.sheets.specs.ProofParts.{counts, placeOf, recordPlace, reachingPlace, columnPlace, mapPlace}
+use Rattle.sheets.specs.Places.{laid, reaching-records, column-records, map-lies, map-ends, read-good}
+use Rattle.sheets.specs.ProofLaws.{read-ends, read-readable, model-sound}
+use Rattle.sheets.specs.Checker.{someWord, modelOf, reachesAll, toldApart, allApart, modelState, stepAgrees, mapHolds, judge}
+
+-- ---- what a sheet says; nothing, if it is refused
+abbrev saidIn : Parsed Proof → Proof
+saidIn (bad number) = record { m = 0; k = 0; n = 0; c = 0; model = []; reaching = []; columns = []; stateMap = [] }
+saidIn (good P rest) = P
+
+unfoldable pub said : List ℕ → Proof
+unfolding proofSheet
+said sheet = saidIn (proofSheet sheet)
+
+pub said-is : (sheet rest : List ℕ) (P : Proof) → proofSheet sheet ≡ good P rest → said sheet ≡ P
+unfolding said
+said-is sheet rest P e = ap saidIn e
+
+-- ---- what the code holds: a sheet that was read, and its model as words
+pub record Held (sheet model : List ℕ) (m k : ℕ) : Type 0 where
+  pub read : proofSheet sheet ≡ good (said sheet) []
+  pub states : said sheet .m ≡ m
+  pub letters : said sheet .k ≡ k
+  pub words : said sheet .model ≡ model
+  pub sound : Sound m k model
+
+-- where the records of the columns begin, and their number
+abbrev pub Columns : List ℕ → ℕ → ℕ → Type 0
+Columns sheet at c = (at ≡ columnPlace (said sheet) 0) × (said sheet .c ≡ c)
+
+-- a word that is run, in the sheet: its record at a place, the next one after it
+pub record Here (sheet : List ℕ) (k : ℕ) (w : Word) (place next : ℕ) : Type 0 where
+  pub within : place + (3 + length w) ≤ length sheet
+  pub size : getD sheet (place + 2) 0 ≡ length w
+  pub letters : take (length w) (drop (place + 3) sheet) ≡ w
+  pub below : lettersBelow k w ≡ true
+  pub after : next ≡ place + (3 + length w)
+
+-- one record more
+place-more : (x y at : ℕ) (words : List Word) (j : ℕ) → j < length words → placeOf (x ∷ y ∷ []) at words (j + 1) ≡ placeOf (x ∷ y ∷ []) at words j + (3 + length (getD words j []))
+unfolding wordsBytes wordBytes
+place-more x y at words j h = let e = go words j h in rw (add-one j) (omega arith)
+  where
+    go : (words : List Word) (j : ℕ) → j < length words
+        → length (wordsBytes (x ∷ y ∷ []) (take (suc j) words)) ≡ length (wordsBytes (x ∷ y ∷ []) (take j words)) + (3 + length (getD words j []))
+    go [] j h = absurd (not-suc-le-zero h)
+    go (w ∷ words) zero h = simp length-append (omega arith)
+    go (w ∷ words) (suc j) h =
+        let i = go words j (le-of-suc-le-suc h) in
+        simp length-append (omega arith)
+
+module _ {sheet model : List ℕ} {m k : ℕ} (H : Held sheet model m k) where
+  -- the sheet's model is the machine that the words lend
+  pub model-is : modelOf (said sheet) ≡ link m k model
+  model-is = rw (H .states, H .letters, H .words) refl
+
+  pub reaching-start : 6 + m * (2 + 2 * k) ≡ reachingPlace (said sheet) 0
+  unfolding reachingPlace wordsBytes
+  reaching-start = rw (H .states, H .letters) (omega arith)
+
+  pub reaching-here : (j : ℕ) → j < m → Here sheet k (getD (said sheet .reaching) j []) (reachingPlace (said sheet) j) (reachingPlace (said sheet) (j + 1))
+  unfolding reachingPlace
+  reaching-here j h =
+      let P : Proof = said sheet in
+      let b : j < P .m = omega (arith, H .states) in
+      let l = laid sheet P [] (H .read) in
+      let i = reaching-records sheet P [] (H .read) .lie j b in
+      let long : j < length (P .reaching) = omega (arith, l .reaching .0) in
+      record {
+        within = i .within;
+        size = i .size;
+        letters = i .letters;
+        below = below-letters k (getD (P .reaching) j []) (subst (λ (z : ℕ). Below z (getD (P .reaching) j [])) (H .letters) (fits-at 0 47 (P .k) (P .reaching) j (l .reaching .1) long .2));
+        after = place-more 0x41 0x57 (6 + P .m * (2 + 2 * P .k)) (P .reaching) j long;
+      }
+
+  pub column-here : (j : ℕ) → j < said sheet .c → Here sheet k (getD (said sheet .columns) j []) (columnPlace (said sheet) j) (columnPlace (said sheet) (j + 1))
+  unfolding columnPlace
+  column-here j h =
+      let P : Proof = said sheet in
+      let l = laid sheet P [] (H .read) in
+      let i = column-records sheet P [] (H .read) .lie j h in
+      let long : j < length (P .columns) = omega (arith, l .columns .0) in
+      record {
+        within = i .within;
+        size = i .size;
+        letters = i .letters;
+        below = below-letters k (getD (P .columns) j []) (subst (λ (z : ℕ). Below z (getD (P .columns) j [])) (H .letters) (fits-at 1 93 (P .k) (P .columns) j (l .columns .1) long .2));
+        after = place-more 0x43 0x57 (reachingPlace P (P .m)) (P .columns) j long;
+      }
+
+-- ---- loops over numbers: one that passes, one that does not, the end
+module _ (p : ℕ → Bool) (n i : ℕ) where
+  pub passes : i < n → p i ≡ true → allFrom p i (n - i) ≡ allFrom p (i + 1) (n - (i + 1))
+  unfolding allFrom
+  passes h t = let e : n - i ≡ suc (n - (i + 1)) = omega arith in ap (allFrom p i) e ∙ rw (t, add-one i) refl
+
+  pub fails : i < n → p i ≡ false → allFrom p i (n - i) ≡ false
+  unfolding allFrom
+  fails h t = let e : n - i ≡ suc (n - (i + 1)) = omega arith in ap (allFrom p i) e ∙ rw t refl
+
+  pub ends : n ≤ i → allFrom p i (n - i) ≡ true
+  unfolding allFrom
+  ends h = let e : n - i ≡ 0 = omega arith in ap (allFrom p i) e
+
+-- ---- over words: one that passes, one that does not, the end
+module _ (p : Word → Bool) (words : List Word) (c : ℕ) where
+  pub some-here : c < length words → p (getD words c []) ≡ true → someWord p (drop c words) ≡ true
+  unfolding someWord
+  some-here h t = rw (drop-cons words c [], t)
+
+  pub some-later : c < length words → p (getD words c []) ≡ false → someWord p (drop c words) ≡ someWord p (drop (c + 1) words)
+  unfolding someWord
+  some-later h t = rw (add-one, drop-cons words c [], t)
+
+  pub some-none : length words ≤ c → someWord p (drop c words) ≡ false
+  unfolding someWord
+  some-none h = rw drop-of-length-le
+
+-- ---- 12: a state that its word reaches
+abbrev pub reached : Machine → Proof → ℕ → Bool
+reached N P j = eqb (walk (N .next) 0 (getD (P .reaching) j [])) j
+
+-- ---- 13: a column that tells two states apart
+unfoldable pub tells : Machine → ℕ → ℕ → Word → Bool
+unfolding lastFrom
+tells N i j e = not (eqb (lastFrom N 0 i e) (lastFrom N 0 j e))
+
+-- a state that is told apart from each before it
+unfoldable pub apartBefore : Machine → Proof → ℕ → Bool
+unfolding allFrom toldApart
+apartBefore M P i = allFrom (toldApart M P i) 0 i
+
+-- 12 and 13 look at the model alone: any machine may stand in their place for one
+pub reaches-alone : (M N : Machine) (P : Proof) → reachesAll M P ≡ reachesAll N P
+unfolding reachesAll
+reaches-alone M N P = refl
+
+pub apart-alone : (M N : Machine) (P : Proof) → allApart M P ≡ allApart N P
+unfolding allApart toldApart
+apart-alone M N P = refl
+
+module _ {sheet model : List ℕ} {m k : ℕ} (H : Held sheet model m k) (M : Machine) where
+  pub reaches-from : reachesAll M (said sheet) ≡ allFrom (reached (link m k model) (said sheet)) 0 m
+  unfolding reachesAll
+  reaches-from = ap (λ (N : Machine). allFrom (reached N (said sheet)) 0 (said sheet .m)) (model-is H) ∙ ap (allFrom (reached (link m k model) (said sheet)) 0) (H .states)
+
+  pub told-from : (i j : ℕ) → toldApart M (said sheet) i j ≡ someWord (tells (link m k model) i j) (said sheet .columns)
+  unfolding toldApart tells
+  told-from i j = ap (λ (N : Machine). someWord (tells N i j) (said sheet .columns)) (model-is H)
+
+-- each pair is asked once: what tells i from j tells j from i
+eqb-turned : (x y : ℕ) → eqb x y ≡ eqb y x
+eqb-turned x y = go (outcome (eqb x y))
+  where
+    go : (eqb x y ≡ true) ⊎ (eqb x y ≡ false) → eqb x y ≡ eqb y x
+    go (inl e) = e ∙ sym (is-true y x (sym (eqb-true x y e)))
+    go (inr e) = e ∙ sym (is-false y x (λ q. eqb-false x y e (sym q)))
+
+same-words : (p q : Word → Bool) (words : List Word) → ((w : Word) → p w ≡ q w) → someWord p words ≡ someWord q words
+unfolding someWord
+same-words p q [] f = refl
+same-words p q (w ∷ words) f = rw (f w, same-words p q words f) refl
+
+same-test : (a b : Bool) → (a ≡ true → b ≡ true) → (b ≡ true → a ≡ true) → a ≡ b
+same-test true b f g = sym (f refl)
+same-test false true f g = g refl
+same-test false false f g = refl
+
+or-true : (a b : Bool) → b ≡ true → (a || b) ≡ true
+or-true true b e = refl
+or-true false b e = e
+
+module _ (M : Machine) (P : Proof) where
+  told-turned : (i j : ℕ) → toldApart M P i j ≡ toldApart M P j i
+  unfolding toldApart
+  told-turned i j =
+      same-words (λ (e : Word). not (eqb (lastFrom (modelOf P) 0 i e) (lastFrom (modelOf P) 0 j e))) (λ (e : Word). not (eqb (lastFrom (modelOf P) 0 j e) (lastFrom (modelOf P) 0 i e)))
+      (P .columns) (λ e. ap not (eqb-turned (lastFrom (modelOf P) 0 i e) (lastFrom (modelOf P) 0 j e)))
+
+  pub apart-from : allApart M P ≡ allFrom (apartBefore M P) 0 (P .m)
+  unfolding allApart apartBefore
+  apart-from = same-test (allApart M P) (allFrom (apartBefore M P) 0 (P .m)) once both
+    where
+      test : ℕ → ℕ → Bool
+      test i j = eqb i j || toldApart M P i j
+
+      row : ℕ → Bool
+      row i = allFrom (test i) 0 (P .m)
+
+      other : (i j : ℕ) → j < i → (eqb i j ≡ true) ⊎ (toldApart M P i j ≡ true) → toldApart M P i j ≡ true
+      other i j h (inl e) = let q = eqb-true i j e in absurd (omega arith)
+      other i j h (inr e) = e
+
+      once : allApart M P ≡ true → allFrom (apartBefore M P) 0 (P .m) ≡ true
+      once e = true-all (apartBefore M P) 0 (P .m) (λ i l u. true-all (toldApart M P i) 0 i (λ j l′ u′.
+          other i j (omega arith) (or-split (eqb i j) (toldApart M P i j) (all-true (test i) 0 (P .m) (all-true row 0 (P .m) e i (omega arith) (omega arith)) j (omega arith) (omega arith)))))
+
+      below : allFrom (apartBefore M P) 0 (P .m) ≡ true → (i j : ℕ) → i < P .m → j < i → toldApart M P i j ≡ true
+      below e i j hi h = all-true (toldApart M P i) 0 i (all-true (apartBefore M P) 0 (P .m) e i (omega arith) (omega arith)) j (omega arith) (omega arith)
+
+      pair : allFrom (apartBefore M P) 0 (P .m) ≡ true → (i j : ℕ) → i < P .m → j < P .m → (eqb i j ≡ true) ⊎ (eqb i j ≡ false) → (ltb i j ≡ true) ⊎ (ltb i j ≡ false) → test i j ≡ true
+      pair e i j hi hj (inl q) a = rw q refl
+      pair e i j hi hj (inr d) (inl a) = or-true (eqb i j) (toldApart M P i j) (told-turned i j ∙ below e j i hj (ltb-yes i j a))
+      pair e i j hi hj (inr d) (inr a) = let l = ltb-no i j a in or-true (eqb i j) (toldApart M P i j) (below e i j hi (omega (arith, eqb-false i j d)))
+
+      both : allFrom (apartBefore M P) 0 (P .m) ≡ true → allApart M P ≡ true
+      both e = true-all row 0 (P .m) (λ i l u. true-all (test i) 0 (P .m) (λ j l′ u′. pair e i j (omega arith) (omega arith) (outcome (eqb i j)) (outcome (ltb i j))))
+
+-- ---- 14: machine, model and map, as the code holds them
+pub record Mapping (n k : ℕ) (words : List ℕ) (m : ℕ) (model map : List ℕ) : Type 0 where
+  pub sound : Sound n k words
+  pub model-sound : Sound m k model
+  pub long : length map ≡ n
+  pub bytes : allPass (mapByte m) map ≡ true
+
+-- a sheet of which only these are looked at
+abbrev pub mapped : ℕ → ℕ → ℕ → List ℕ → List ℕ → Proof
+mapped n k m model map = record { m = m; k = k; n = n; c = 0; model = model; reaching = []; columns = []; stateMap = map }
+
+pub map-alone : (M : Machine) (P : Proof) → mapHolds M P ≡ mapHolds M (mapped (P .n) (P .k) (P .m) (P .model) (P .stateMap))
+unfolding mapHolds stepAgrees
+map-alone M P = refl
+
+-- a machine state that agrees with its model state at each letter, or is asked nothing
+unfoldable pub stateAgrees : Machine → Proof → ℕ → Bool
+unfolding allFrom stepAgrees
+stateAgrees M P s = eqb (modelState M P s) 255 || allFrom (stepAgrees M P s) 0 (P .k)
+
+pub map-from : (M : Machine) (P : Proof) → mapHolds M P ≡ (eqb (modelState M P 0) 0 && allFrom (stateAgrees M P) 0 (P .n))
+unfolding mapHolds stateAgrees
+map-from M P = refl
