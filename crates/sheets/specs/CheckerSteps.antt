@@ -1,14 +1,15 @@
 -- The checker step by step, as the code goes through it: what it holds of a sheet, where the words lie that it runs, and its loops.
 use mathlib.Core.Path.{_≡_, refl, sym, ap, _∙_, subst}
-use mathlib.Core.Logic.{_⊎_, inl, inr}
+use mathlib.Core.Logic.{_⊎_, inl, inr, _≢_}
 use mathlib.Core.Bool.{Bool, true, false, not, _&&_, _||_, true≢false}
 use mathlib.Core.List.{List, [], _∷_, _++_}
-use Prim.Native.Nat.{ℕ, zero, suc, _+_, _*_, _-_, _≤_, _<_}
+use Prim.Native.Nat.{ℕ, zero, suc, _+_, _*_, _-_, _/_, _%_, _≤_, _<_}
 use native.Mathlib.Nat.{not-suc-le-zero, le-of-suc-le-suc}
 use native.Mathlib.Numerals.{add-one}
 use native.Mathlib.Omega.{arith}
 use lib.ListN.{length, getD, take, drop, length-append, length-drop, drop-of-length-le}
 use lib.Seq.{drop-cons, drop-drop, drop-append-seam}
+use lib.Arith.{digits-lt}
 use lib.Dec.{eqb, ltb}
 use Rattle.rules.specs.Tests.{outcome, and-split, or-split, eqb-true, eqb-false, ltb-yes, ltb-no, is-true, is-false, allFrom, all-true, true-all}
 use Rattle.rules.specs.Words.{Word, Below}
@@ -18,7 +19,7 @@ use Rattle.rules.specs.Answer.{Answer, refused, gives, demand, _>>_}
 use Rattle.rules.specs.Areas.{put}
 use Rattle.rules.specs.Sheets.{AW, CW, SM, Proof, wordBytes, wordsBytes}
 use Rattle.machine.specs.Lent.{link, lettersBelow, allPass, Sound}
-use Rattle.machine.specs.LentLaws.{below-letters}
+use Rattle.machine.specs.LentLaws.{all-at, below-letters}
 use Rattle.sheets.specs.Reading.{Parsed, bad, good}
 use Rattle.sheets.specs.Proofs.{mapByte, proofSheet, Counts, readProof}
 use Rattle.sheets.specs.Standing.{rowWords}
@@ -74,6 +75,13 @@ place-more x y at words j h = let e = go words j h in rw (add-one j) (omega arit
         let i = go words j (le-of-suc-le-suc h) in
         simp length-append (omega arith)
 
+-- the letters after a length of the record at a place are the word
+pub here-part : {sheet : List ℕ} {k : ℕ} {w : Word} {place next size : ℕ} → Here sheet k w place next → size ≡ getD sheet (place + 2) 0
+    → take (place + 3 + size - (place + 3)) (drop (place + 3) sheet) ≡ w
+here-part {sheet} {k} {w} {place} {next} {size} h e =
+    let n : place + 3 + size - (place + 3) ≡ length w = omega (arith, h .size) in
+    ap (λ (i : ℕ). take i (drop (place + 3) sheet)) n ∙ h .letters
+
 module _ {sheet model : List ℕ} {m k : ℕ} (H : Held sheet model m k) where
   -- the sheet's model is the machine that the words lend
   pub model-is : modelOf (said sheet) ≡ link m k model
@@ -82,6 +90,9 @@ module _ {sheet model : List ℕ} {m k : ℕ} (H : Held sheet model m k) where
   pub reaching-start : 6 + m * (2 + 2 * k) ≡ reachingPlace (said sheet) 0
   unfolding reachingPlace wordsBytes
   reaching-start = rw (H .states, H .letters) (omega arith)
+
+  pub reaching-within : (k ≤ 12) × (6 + m * (2 + 2 * k) ≤ length sheet)
+  reaching-within = (H .sound .k-high, rw (H .states, H .letters) at (laid sheet (said sheet) [] (H .read) .start))
 
   pub reaching-here : (j : ℕ) → j < m → Here sheet k (getD (said sheet .reaching) j []) (reachingPlace (said sheet) j) (reachingPlace (said sheet) (j + 1))
   unfolding reachingPlace
@@ -99,6 +110,9 @@ module _ {sheet model : List ℕ} {m k : ℕ} (H : Held sheet model m k) where
         after = place-more 0x41 0x57 (6 + P .m * (2 + 2 * P .k)) (P .reaching) j long;
       }
 
+  pub columns-many : length (said sheet .columns) ≡ said sheet .c
+  columns-many = laid sheet (said sheet) [] (H .read) .columns .0
+
   pub column-here : (j : ℕ) → j < said sheet .c → Here sheet k (getD (said sheet .columns) j []) (columnPlace (said sheet) j) (columnPlace (said sheet) (j + 1))
   unfolding columnPlace
   column-here j h =
@@ -114,7 +128,10 @@ module _ {sheet model : List ℕ} {m k : ℕ} (H : Held sheet model m k) where
         after = place-more 0x43 0x57 (reachingPlace P (P .m)) (P .columns) j long;
       }
 
--- ---- loops over numbers: one that passes, one that does not, the end
+-- ---- loops over numbers: the start, one that passes, one that does not, the end
+pub begins : (p : ℕ → Bool) (n : ℕ) → allFrom p 0 n ≡ allFrom p 0 (n - 0)
+begins p n = let e : n ≡ n - 0 = omega arith in ap (allFrom p 0) e
+
 module _ (p : ℕ → Bool) (n i : ℕ) where
   pub passes : i < n → p i ≡ true → allFrom p i (n - i) ≡ allFrom p (i + 1) (n - (i + 1))
   unfolding allFrom
@@ -252,6 +269,58 @@ unfoldable pub stateAgrees : Machine → Proof → ℕ → Bool
 unfolding allFrom stepAgrees
 stateAgrees M P s = eqb (modelState M P s) 255 || allFrom (stepAgrees M P s) 0 (P .k)
 
-pub map-from : (M : Machine) (P : Proof) → mapHolds M P ≡ (eqb (modelState M P 0) 0 && allFrom (stateAgrees M P) 0 (P .n))
-unfolding mapHolds stateAgrees
-map-from M P = refl
+-- a number that stands in a list is the same whatever stands for none
+at-any : (l : List ℕ) (i : ℕ) → i < length l → getD l i 255 ≡ getD l i 0
+at-any [] i h = absurd (not-suc-le-zero h)
+at-any (x ∷ l) zero h = refl
+at-any (x ∷ l) (suc i) h = at-any l i (le-of-suc-le-suc h)
+
+module _ {n k : ℕ} {words : List ℕ} {m : ℕ} {model map : List ℕ} (G : Mapping n k words m model map) where
+  -- what is read lies where it is read
+  pub word-in : (s a : ℕ) → s < n → a < k → s * k + a < length words
+  word-in s a hs ha = rw (G .sound .long) (digits-lt hs ha)
+
+  pub model-in : (t a : ℕ) → t < m → a < k → t * k + a < length model
+  model-in t a ht ha = rw (G .model-sound .long) (digits-lt ht ha)
+
+  pub next-in : (s a : ℕ) → s < n → a < k → getD words (s * k + a) 0 / 256 < length map
+  next-in s a hs ha = rw (G .long) (G .sound .next s a hs ha)
+
+  -- a machine state that is not marked 255 has a model state
+  pub has-state : (s : ℕ) → s < n → getD map s 0 ≢ 255 → getD map s 0 < m
+  has-state s hs d = go (or-split (ltb (getD map s 0) m) (eqb (getD map s 0) 255) (all-at (mapByte m) map s (G .bytes) (rw (G .long) hs)))
+    where
+      go : (ltb (getD map s 0) m ≡ true) ⊎ (eqb (getD map s 0) 255 ≡ true) → getD map s 0 < m
+      go (inl e) = ltb-yes (getD map s 0) m e
+      go (inr e) = absurd (d (eqb-true (getD map s 0) 255 e))
+
+  pub state-is : (s : ℕ) → s < n → getD map s 255 ≡ getD map s 0
+  state-is s hs = at-any map s (rw (G .long) hs)
+
+  -- a step, by what is read
+  pub step-is : (s a : ℕ) → s < n → a < k → stepAgrees (link n k words) (mapped n k m model map) s a
+      ≡ (eqb (getD words (s * k + a) 0 % 256) (getD model (getD map s 0 * k + a) 0 % 256)
+      && eqb (getD map (getD words (s * k + a) 0 / 256) 0) (getD model (getD map s 0 * k + a) 0 / 256))
+  unfolding stepAgrees lent
+  step-is s a hs ha = rw (state-is s hs, at-any map (getD words (s * k + a) 0 / 256) (next-in s a hs ha)) refl
+
+  -- a state that is asked nothing, and one that is asked at each letter
+  pub agrees-none : (s : ℕ) → s < n → getD map s 0 ≡ 255 → stateAgrees (link n k words) (mapped n k m model map) s ≡ true
+  unfolding stateAgrees
+  agrees-none s hs e = rw (state-is s hs, e) refl
+
+  pub agrees-from : (s : ℕ) → s < n → getD map s 0 ≢ 255 → stateAgrees (link n k words) (mapped n k m model map) s ≡ allFrom (stepAgrees (link n k words) (mapped n k m model map) s) 0 k
+  unfolding stateAgrees
+  agrees-from s hs d = rw (state-is s hs, is-false (getD map s 0) 255 d) refl
+
+  -- machine state 0 has another model state than 0, or has it and the states are asked
+  start-in : 0 < n
+  start-in = omega (arith, G .sound .n-low)
+
+  pub holds-not : getD map 0 0 ≢ 0 → mapHolds (link n k words) (mapped n k m model map) ≡ false
+  unfolding mapHolds
+  holds-not d = rw (state-is 0 start-in, is-false (getD map 0 0) 0 d) refl
+
+  pub holds-from : getD map 0 0 ≡ 0 → mapHolds (link n k words) (mapped n k m model map) ≡ allFrom (stateAgrees (link n k words) (mapped n k m model map)) 0 n
+  unfolding mapHolds stateAgrees
+  holds-from e = rw (state-is 0 start-in, e) refl
