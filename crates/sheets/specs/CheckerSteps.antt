@@ -8,7 +8,7 @@ use native.Mathlib.Nat.{not-suc-le-zero, le-of-suc-le-suc}
 use native.Mathlib.Numerals.{add-one}
 use native.Mathlib.Omega.{arith}
 use lib.ListN.{length, getD, take, drop, length-append, length-drop, drop-of-length-le}
-use lib.Seq.{drop-cons, drop-drop, drop-append-seam}
+use lib.Seq.{drop-cons, drop-drop, take-at}
 use lib.Arith.{digits-lt}
 use lib.Dec.{eqb, ltb}
 use Rattle.rules.specs.Tests.{outcome, and-split, or-split, eqb-true, eqb-false, ltb-yes, ltb-no, is-true, is-false, allFrom, all-true, true-all}
@@ -21,13 +21,14 @@ use Rattle.rules.specs.Sheets.{AW, CW, SM, Proof, wordBytes, wordsBytes}
 use Rattle.machine.specs.Lent.{link, lettersBelow, allPass, Sound}
 use Rattle.machine.specs.LentLaws.{all-at, below-letters}
 use Rattle.sheets.specs.Reading.{Parsed, bad, good}
-use Rattle.sheets.specs.Proofs.{mapByte, proofSheet, Counts, readProof}
-use Rattle.sheets.specs.Standing.{rowWords}
+use Rattle.sheets.specs.Proofs.{mapByte, proofSheet, Counts, countsOf, readProof}
+use Rattle.sheets.specs.Standing.{rowWords, row-words-length}
 use Rattle.sheets.specs.WordRecords.{Lies, fits-at}
 use Rattle.sheets.specs.ProofParts.{counts, placeOf, recordPlace, reachingPlace, columnPlace, mapPlace}
+use Rattle.sheets.specs.WordSteps.{clash}
 use Rattle.sheets.specs.Places.{laid, reaching-records, column-records, map-lies, map-ends, read-good}
 use Rattle.sheets.specs.ProofLaws.{read-ends, read-readable, model-sound}
-use Rattle.sheets.specs.Checker.{someWord, modelOf, reachesAll, toldApart, allApart, modelState, stepAgrees, mapHolds, judge}
+use Rattle.sheets.specs.Checker.{someWord, modelOf, reachesAll, toldApart, allApart, modelState, stepAgrees, mapHolds, judge, judgeSheet}
 
 -- ---- what a sheet says; nothing, if it is refused
 abbrev saidIn : Parsed Proof → Proof
@@ -220,7 +221,7 @@ module _ (M : Machine) (P : Proof) where
       same-words (λ (e : Word). not (eqb (lastFrom (modelOf P) 0 i e) (lastFrom (modelOf P) 0 j e))) (λ (e : Word). not (eqb (lastFrom (modelOf P) 0 j e) (lastFrom (modelOf P) 0 i e)))
       (P .columns) (λ e. ap not (eqb-turned (lastFrom (modelOf P) 0 i e) (lastFrom (modelOf P) 0 j e)))
 
-  pub apart-from : allApart M P ≡ allFrom (apartBefore M P) 0 (P .m)
+  apart-from : allApart M P ≡ allFrom (apartBefore M P) 0 (P .m)
   unfolding allApart apartBefore
   apart-from = same-test (allApart M P) (allFrom (apartBefore M P) 0 (P .m)) once both
     where
@@ -248,6 +249,9 @@ module _ (M : Machine) (P : Proof) where
 
       both : allFrom (apartBefore M P) 0 (P .m) ≡ true → allApart M P ≡ true
       both e = true-all row 0 (P .m) (λ i l u. true-all (test i) 0 (P .m) (λ j l′ u′. pair e i j (omega arith) (omega arith) (outcome (eqb i j)) (outcome (ltb i j))))
+
+pub apart-asked : {sheet model : List ℕ} {m k : ℕ} → Held sheet model m k → (M : Machine) → allApart M (said sheet) ≡ allFrom (apartBefore M (said sheet)) 0 m
+apart-asked {sheet} H M = apart-from M (said sheet) ∙ ap (allFrom (apartBefore M (said sheet)) 0) (H .states)
 
 -- ---- 14: machine, model and map, as the code holds them
 pub record Mapping (n k : ℕ) (words : List ℕ) (m : ℕ) (model map : List ℕ) : Type 0 where
@@ -324,3 +328,91 @@ module _ {n k : ℕ} {words : List ℕ} {m : ℕ} {model map : List ℕ} (G : Ma
   pub holds-from : getD map 0 0 ≡ 0 → mapHolds (link n k words) (mapped n k m model map) ≡ allFrom (stateAgrees (link n k words) (mapped n k m model map)) 0 n
   unfolding mapHolds stateAgrees
   holds-from e = rw (state-is 0 start-in, e) refl
+
+-- ---- the questions in order
+module _ {sheet model : List ℕ} {m k n c : ℕ} (H : Held sheet model m k) (e : readProof sheet ≡ gives (counts m k n c)) where
+  -- the counts that reading gave are those of the sheet
+  counted : counts (said sheet .m) (said sheet .k) (said sheet .n) (said sheet .c) ≡ counts m k n c
+  counted = let g = read-good sheet (counts m k n c) e in ap (λ (P : Proof). counts (P .m) (P .k) (P .n) (P .c)) (said-is sheet (g .1) (g .0) (g .2)) ∙ g .3
+
+  mapped-states : said sheet .n ≡ n
+  mapped-states = ap (λ (h : Counts). h .n) counted
+
+  -- the columns lie after the reaching words
+  pub columns-at : (recordPlace sheet (6 + m * (2 + 2 * k)) m ≤ length sheet) × Columns sheet (recordPlace sheet (6 + m * (2 + 2 * k)) m) c
+  unfolding columnPlace reachingPlace wordsBytes
+  columns-at =
+      let r = reaching-records sheet (said sheet) [] (H .read) .places (said sheet .m) (omega arith) in
+      let start : 6 + said sheet .m * (2 + 2 * said sheet .k) ≡ 6 + m * (2 + 2 * k) = rw (H .states, H .letters) refl in
+      let is : recordPlace sheet (6 + m * (2 + 2 * k)) m ≡ reachingPlace (said sheet) (said sheet .m) = (rw (start, H .states) at (r .0)) ∙ rw (start, H .states) refl in
+      (omega (arith, is, r .0, r .1), (omega (arith, is), ap (λ (h : Counts). h .c) counted))
+
+  -- the map lies at the end
+  pub map-is : (n ≤ length sheet) × (drop (length sheet - n) sheet ≡ said sheet .stateMap)
+  map-is =
+      let P : Proof = said sheet in
+      let end = map-ends sheet P [] (H .read) in
+      let at : length sheet - n ≡ mapPlace P + 2 = omega (arith, mapped-states) in
+      (omega (arith, mapped-states), ap (λ (i : ℕ). drop i sheet) at ∙ sym (drop-drop 2 (mapPlace P) sheet) ∙ ap (drop 2) (map-lies sheet P [] (H .read)))
+
+  pub mapping : {words : List ℕ} → Sound n k words → Mapping n k words m model (said sheet .stateMap)
+  mapping sound =
+      let l = laid sheet (said sheet) [] (H .read) in
+      record {
+        sound = sound;
+        model-sound = H .sound;
+        long = l .states .0 ∙ mapped-states;
+        bytes = subst (λ (z : ℕ). allPass (mapByte z) (said sheet .stateMap) ≡ true) (H .states) (l .states .1);
+      }
+
+  pub map-same : (M : Machine) → mapHolds M (said sheet) ≡ mapHolds M (mapped n k m model (said sheet .stateMap))
+  map-same M = map-alone M (said sheet) ∙ rw (mapped-states, H .letters, H .states, H .words) refl
+
+  -- n and k are the machine's: the other three questions are left
+  pub judge-same : (M : Machine) → judge n k M (said sheet) ≡ _>>_ (demand (reachesAll M (said sheet)) 12) (_>>_ (demand (allApart M (said sheet)) 13) (demand (mapHolds M (said sheet)) 14))
+  unfolding judge
+  judge-same M = rw (is-true (said sheet .n) n mapped-states, is-true (said sheet .k) k (H .letters)) refl
+
+-- ---- a sheet that is refused, one of another size, and one that is judged
+pub judge-refused : (n k : ℕ) (M : Machine) (sheet : List ℕ) (x : ℕ) → readProof sheet ≡ refused x → judgeSheet n k M (proofSheet sheet) ≡ refused x
+unfolding readProof
+judge-refused n k M sheet x e = go (proofSheet sheet) e
+  where
+    go : (p : Parsed Proof) → countsOf p ≡ refused x → judgeSheet n k M p ≡ refused x
+    go (bad y) e = let h : y ≡ x = cc in ap refused h
+    go (good P rest) e = absurd (clash (sym e))
+
+module _ (n k : ℕ) (M : Machine) (sheet : List ℕ) (h : Counts) (e : readProof sheet ≡ gives h) where
+  pub judge-said : judgeSheet n k M (proofSheet sheet) ≡ judge n k M (said sheet)
+  judge-said = let g = read-good sheet h e in ap (judgeSheet n k M) (g .2) ∙ ap (judge n k M) (sym (said-is sheet (g .1) (g .0) (g .2)))
+
+  -- 11
+  pub judge-other : (eqb (h .n) n && eqb (h .k) k) ≡ false → judgeSheet n k M (proofSheet sheet) ≡ refused 11
+  unfolding judge
+  judge-other t =
+      let g = read-good sheet h e in
+      let c : (eqb (g .0 .n) n && eqb (g .0 .k) k) ≡ false = ap (λ (h : Counts). eqb (h .n) n && eqb (h .k) k) (g .3) ∙ t in
+      ap (judgeSheet n k M) (g .2) ∙ rw c refl
+
+-- the model's words, put into an area, are what the code holds
+pub held : (sheet area : List ℕ) (h : Counts) → Below 256 sheet → readProof sheet ≡ gives h → h .m * h .k ≤ length area
+    → Held sheet (take (h .m * h .k) (put 0 (rowWords (h .k) (h .m) (drop 6 sheet)) area)) (h .m) (h .k)
+unfolding put
+held sheet area h b e room =
+    let g = read-good sheet h e in
+    let P : Proof = g .0 in
+    let r = read-readable sheet P (g .1) (g .2) b in
+    let is : said sheet ≡ P = said-is sheet (g .1) P (g .2) in
+    let m : P .m ≡ h .m = ap (λ (h : Counts). h .m) (g .3) in
+    let k : P .k ≡ h .k = ap (λ (h : Counts). h .k) (g .3) in
+    let words : List ℕ = rowWords (h .k) (h .m) (drop 6 sheet) in
+    let front : take (h .m * h .k) (put 0 words area) ≡ words = take-at words (drop (0 + length words) area) (h .m * h .k) (row-words-length (h .k) (h .m) (drop 6 sheet)) in
+    let model : P .model ≡ words = (rw (m, k) at (laid sheet P (g .1) (g .2) .model .is)) in
+    let all : P .model ≡ take (h .m * h .k) (put 0 words area) = model ∙ sym front in
+    record {
+      read = g .2 ∙ rw (read-ends sheet P (g .1) (g .2)) (ap (λ (Q : Proof). good Q []) (sym is));
+      states = ap (λ (Q : Proof). Q .m) is ∙ m;
+      letters = ap (λ (Q : Proof). Q .k) is ∙ k;
+      words = ap (λ (Q : Proof). Q .model) is ∙ all;
+      sound = rw (m, k, all) at (model-sound P r);
+    }
