@@ -4,11 +4,11 @@ use mathlib.Core.Logic.{_⊎_, inl, inr, _≢_}
 use mathlib.Core.Bool.{Bool, true, false, not, _&&_, _||_, true≢false}
 use mathlib.Core.List.{List, [], _∷_, _++_}
 use Prim.Native.Nat.{ℕ, zero, suc, _+_, _*_, _-_, _/_, _%_, _≤_, _<_}
-use native.Mathlib.Nat.{not-suc-le-zero, le-of-suc-le-suc}
+use native.Mathlib.Nat.{not-suc-le-zero, le-of-suc-le-suc, mul-le-mul}
 use native.Mathlib.Numerals.{add-one}
 use native.Mathlib.Omega.{arith}
 use lib.ListN.{length, getD, take, drop, length-append, length-drop, drop-of-length-le}
-use lib.Seq.{drop-cons, drop-drop, take-at}
+use lib.Seq.{drop-cons, drop-drop, take-at, take-all}
 use lib.Arith.{digits-lt}
 use lib.Dec.{eqb, ltb}
 use Rattle.rules.specs.Tests.{outcome, and-split, or-split, eqb-true, eqb-false, ltb-yes, ltb-no, is-true, is-false, allFrom, all-true, true-all}
@@ -26,6 +26,7 @@ use Rattle.sheets.specs.Standing.{rowWords, row-words-length}
 use Rattle.sheets.specs.WordRecords.{Lies, fits-at}
 use Rattle.sheets.specs.ProofParts.{counts, placeOf, recordPlace, reachingPlace, columnPlace, mapPlace}
 use Rattle.sheets.specs.WordSteps.{clash}
+use Rattle.sheets.specs.ProofSteps.{InRange}
 use Rattle.sheets.specs.Places.{laid, reaching-records, column-records, map-lies, map-ends, read-good}
 use Rattle.sheets.specs.ProofLaws.{read-ends, read-readable, model-sound}
 use Rattle.sheets.specs.Checker.{someWord, modelOf, reachesAll, toldApart, allApart, modelState, stepAgrees, mapHolds, judge, judgeSheet}
@@ -348,12 +349,17 @@ module _ {sheet model : List ℕ} {m k n c : ℕ} (H : Held sheet model m k) (e 
       (omega (arith, is, r .0, r .1), (omega (arith, is), ap (λ (h : Counts). h .c) counted))
 
   -- the map lies at the end
-  pub map-is : (n ≤ length sheet) × (drop (length sheet - n) sheet ≡ said sheet .stateMap)
+  pub map-is : (n ≤ length sheet) × (take (length sheet - (length sheet - n)) (drop (length sheet - n) sheet) ≡ said sheet .stateMap)
   map-is =
       let P : Proof = said sheet in
       let end = map-ends sheet P [] (H .read) in
       let at : length sheet - n ≡ mapPlace P + 2 = omega (arith, mapped-states) in
-      (omega (arith, mapped-states), ap (λ (i : ℕ). drop i sheet) at ∙ sym (drop-drop 2 (mapPlace P) sheet) ∙ ap (drop 2) (map-lies sheet P [] (H .read)))
+      let rest : List ℕ = drop (length sheet - n) sheet in
+      (
+        omega (arith, mapped-states),
+        take-all (length sheet - (length sheet - n)) rest (omega (arith, length-drop (length sheet - n) sheet))
+        ∙ ap (λ (i : ℕ). drop i sheet) at ∙ sym (drop-drop 2 (mapPlace P) sheet) ∙ ap (drop 2) (map-lies sheet P [] (H .read)),
+      )
 
   pub mapping : {words : List ℕ} → Sound n k words → Mapping n k words m model (said sheet .stateMap)
   mapping sound =
@@ -386,6 +392,14 @@ module _ (n k : ℕ) (M : Machine) (sheet : List ℕ) (h : Counts) (e : readProo
   pub judge-said : judgeSheet n k M (proofSheet sheet) ≡ judge n k M (said sheet)
   judge-said = let g = read-good sheet h e in ap (judgeSheet n k M) (g .2) ∙ ap (judge n k M) (sym (said-is sheet (g .1) (g .0) (g .2)))
 
+  -- the model's rows are in the sheet, and their words go into 576
+  pub rows-in : (h .m * h .k ≤ 576) × (6 + h .m * (2 + 2 * h .k) ≤ length sheet)
+  rows-in =
+      let g = read-good sheet h e in
+      let l = laid sheet (g .0) (g .1) (g .2) in
+      let r : InRange h = subst InRange (sym (l .said) ∙ g .3) (l .head .ranges) in
+      (omega (arith, mul-le-mul {n₁ = h .m} {m₁ = h .k} {n₂ = 48} {m₂ = 12} (r .m-high) (r .k-high)), subst (λ (h : Counts). 6 + h .m * (2 + 2 * h .k) ≤ length sheet) (g .3) (l .start))
+
   -- 11
   pub judge-other : (eqb (h .n) n && eqb (h .k) k) ≡ false → judgeSheet n k M (proofSheet sheet) ≡ refused 11
   unfolding judge
@@ -394,14 +408,18 @@ module _ (n k : ℕ) (M : Machine) (sheet : List ℕ) (h : Counts) (e : readProo
       let c : (eqb (g .0 .n) n && eqb (g .0 .k) k) ≡ false = ap (λ (h : Counts). eqb (h .n) n && eqb (h .k) k) (g .3) ∙ t in
       ap (judgeSheet n k M) (g .2) ∙ rw c refl
 
+bytes-below : (bytes : List ℕ) → ((i : ℕ) → getD bytes i 0 < 256) → Below 256 bytes
+bytes-below [] f = tt
+bytes-below (x ∷ bytes) f = (f 0, bytes-below bytes (λ i. f (suc i)))
+
 -- the model's words, put into an area, are what the code holds
-pub held : (sheet area : List ℕ) (h : Counts) → Below 256 sheet → readProof sheet ≡ gives h → h .m * h .k ≤ length area
+pub held : (sheet area : List ℕ) (h : Counts) → ((i : ℕ) → getD sheet i 0 < 256) → readProof sheet ≡ gives h
     → Held sheet (take (h .m * h .k) (put 0 (rowWords (h .k) (h .m) (drop 6 sheet)) area)) (h .m) (h .k)
 unfolding put
-held sheet area h b e room =
+held sheet area h b e =
     let g = read-good sheet h e in
     let P : Proof = g .0 in
-    let r = read-readable sheet P (g .1) (g .2) b in
+    let r = read-readable sheet P (g .1) (g .2) (bytes-below sheet b) in
     let is : said sheet ≡ P = said-is sheet (g .1) P (g .2) in
     let m : P .m ≡ h .m = ap (λ (h : Counts). h .m) (g .3) in
     let k : P .k ≡ h .k = ap (λ (h : Counts). h .k) (g .3) in

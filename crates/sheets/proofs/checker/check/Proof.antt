@@ -1,3 +1,8 @@
+use Rattle.sheets.specs.Checker as checker
+use Rattle.rules.specs.Answer.{gives}
+use Rattle.machine.specs.Answers.{checked}
+use Rattle.machine.specs.Lent.{lentCheck}
+use Rattle.machine.specs.LentLaws.{lent-sound}
 use native.Mathlib.Omega.{arith}
 use mathlib.Core.Path.{_≡_, refl, sym, ap, _∙_}
 use Prim.Native.Nat.{ℕ, _+_, _*_, _-_, _/_, _%_, _<_, _≤_}
@@ -11,6 +16,13 @@ use Rattle.machine.proofs.check.Reads as check-reads
 use Rattle.sheets.proofs.checker.judge.Reads as judge-reads
 use Rattle.sheets.proofs.proofs.read.Reads as read-reads
 
+-- lemma-begin
+-- the machine came out sound
+sound : (c : tie.After-enum-told) → let a = c .before .before .before .before .before .args in lentCheck (a .n) (a .k) (a .words .now) ≡ gives tt
+sound c = sym (c .before .before .check .ensures) ∙ ap checked (c .enum-told .given .1)
+
+-- lemma-end
+
 -- src/checker.rt:234:9
 check-requires : tie.Need-check-requires
 check-requires c κs = search needs
@@ -21,7 +33,8 @@ enum-known-c c = search needs
 
 -- src/checker.rt:236:9
 returns : tie.Need-returns
-returns c = ?
+unfolding checker.check
+returns c = simp (sym (c .before .before .before .check .ensures), c .before .c .given .1)
 
 enum-told : tie.Need-enum-told
 enum-told c = search needs
@@ -32,11 +45,12 @@ read-requires c κs = search needs
 
 -- src/checker.rt:238:5
 judge-requires : tie.Need-judge-requires
-judge-requires c κs = ?
+judge-requires c κs = let a = c .before .before .before .before .before .before .args in (lent-sound (a .n) (a .k) (a .words .now) (sound (c .before)), c .read .ensures)
 
 -- src/checker.rt:231:1
 returns-2 : tie.Need-returns-2
-returns-2 c = ?
+unfolding checker.check
+returns-2 c = rw (sound (c .before .before)) (c .judge .ensures)
 
 pub check-spec : {M : Type 1} → statement M
 check-spec =
