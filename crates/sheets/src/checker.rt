@@ -7,7 +7,7 @@ ghost use Prim.Native.Nat.{ℕ, _+_, _*_, _<_, _≤_};
 ghost use lib.ListN.{length, getD};
 ghost use lib.Dec.{eqb};
 ghost use Rattle.rules.specs.Answer.{gives};
-ghost use Rattle.rules.specs.Machine.{Machine, lent, lastFrom};
+ghost use Rattle.rules.specs.Machine.{Machine, lent};
 ghost use Rattle.rules.specs.Tests.{allFrom};
 ghost use Rattle.machine.specs.Answers.{checked};
 ghost use Rattle.machine.specs.Lent.{link, lettersBelow, Sound};
@@ -22,24 +22,6 @@ use crate::proofs;
 use crate::proofs::ProofRead;
 use machine::Checked;
 use machine::refusal::Refusal;
-
-// The last output of a word that is run from `state`, 0 for the empty word.
-fn last_from(words: &[u16], n: usize, k: usize, state: usize, w: &[u8]) -> u8
-    requires { ⌜ Sound n k (now words) ⌝ }
-    requires { ⌜ (state < n) × (lettersBelow k (now w) ≡ true) ⌝ }
-    ensures { λ r. ⌜ r ≡ lastFrom (link n k (now (words .entry))) 0 state (now (w .entry)) ⌝ }
-{
-    let mut state = state;
-    let mut output: u8 = 0;
-    let mut at: usize = 0;
-    while at < w.len() {
-        let a = machine::wide(w[at]);
-        output = machine::output(words, k, state, a);
-        state = machine::next(words, k, state, a);
-        at += 1;
-    }
-    output
-}
 
 // 12: each AW word leads the model from 0 to its state.
 fn reaches_all(sheet: &[u8], model: &[u16], m: usize, k: usize) -> bool
@@ -66,7 +48,7 @@ fn column_tells(model: &[u16], m: usize, k: usize, i: usize, j: usize, column: &
     requires { ⌜ (i < m) × (j < m) × (lettersBelow k (now column) ≡ true) ⌝ }
     ensures { λ r. ⌜ r ≡ tells (link m k (now (model .entry))) i j (now (column .entry)) ⌝ }
 {
-    last_from(model, m, k, i, column) != last_from(model, m, k, j, column)
+    machine::last_from(model, m, k, i, column) != machine::last_from(model, m, k, j, column)
 }
 
 // Whether they answer some column differently. The records of the `c` columns begin at `at`.

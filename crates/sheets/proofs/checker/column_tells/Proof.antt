@@ -8,7 +8,6 @@ use Rattle.sheets.proofs.checker.column_tells.Statement.{statement}
 use Rattle.sheets.proofs.checker.column_tells.Tie as tie
 use Rattle.sheets.proofs.checker.column_tells.Reads as reads
 use Rattle.sheets.proofs.checker.column_tells.Lts as lts
-use Rattle.sheets.proofs.checker.last_from.Reads as last-from-reads
 
 -- src/checker.rt:69:5
 last-from-requires : tie.Need-last-from-requires
