@@ -1,4 +1,4 @@
--- The checker step by step, as the code goes through it: what it holds of a sheet, where the words lie that it runs, and its loops.
+-- The checker step by step, as the code goes through it: its loops, its questions, and their order.
 use mathlib.Core.Path.{_≡_, refl, sym, ap, _∙_, subst}
 use mathlib.Core.Logic.{_⊎_, inl, inr, _≢_}
 use mathlib.Core.Bool.{Bool, true, false, not, _&&_, _||_, true≢false}
@@ -30,105 +30,8 @@ use Rattle.sheets.specs.ProofSteps.{InRange}
 use Rattle.sheets.specs.Places.{laid, reaching-records, column-records, map-lies, map-ends, read-good}
 use Rattle.sheets.specs.ProofLaws.{read-ends, read-readable, model-sound}
 use Rattle.sheets.specs.Checker.{someWord, modelOf, reachesAll, toldApart, allApart, modelState, stepAgrees, mapHolds, judge, judgeSheet}
-
--- ---- what a sheet says; nothing, if it is refused
-abbrev saidIn : Parsed Proof → Proof
-saidIn (bad number) = record { m = 0; k = 0; n = 0; c = 0; model = []; reaching = []; columns = []; stateMap = [] }
-saidIn (good P rest) = P
-
-unfoldable pub said : List ℕ → Proof
-unfolding proofSheet
-said sheet = saidIn (proofSheet sheet)
-
-pub said-is : (sheet rest : List ℕ) (P : Proof) → proofSheet sheet ≡ good P rest → said sheet ≡ P
-unfolding said
-said-is sheet rest P e = ap saidIn e
-
--- ---- what the code holds: a sheet that was read, and its model as words
-pub record Held (sheet model : List ℕ) (m k : ℕ) : Type 0 where
-  pub read : proofSheet sheet ≡ good (said sheet) []
-  pub states : said sheet .m ≡ m
-  pub letters : said sheet .k ≡ k
-  pub words : said sheet .model ≡ model
-  pub sound : Sound m k model
-
--- where the records of the columns begin, and their number
-abbrev pub Columns : List ℕ → ℕ → ℕ → Type 0
-Columns sheet at c = (at ≡ columnPlace (said sheet) 0) × (said sheet .c ≡ c)
-
--- a word that is run, in the sheet: its record at a place, the next one after it
-pub record Here (sheet : List ℕ) (k : ℕ) (w : Word) (place next : ℕ) : Type 0 where
-  pub within : place + (3 + length w) ≤ length sheet
-  pub size : getD sheet (place + 2) 0 ≡ length w
-  pub letters : take (length w) (drop (place + 3) sheet) ≡ w
-  pub below : lettersBelow k w ≡ true
-  pub after : next ≡ place + (3 + length w)
-
--- one record more
-place-more : (x y at : ℕ) (words : List Word) (j : ℕ) → j < length words → placeOf (x ∷ y ∷ []) at words (j + 1) ≡ placeOf (x ∷ y ∷ []) at words j + (3 + length (getD words j []))
-unfolding wordsBytes wordBytes
-place-more x y at words j h = let e = go words j h in rw (add-one j) (omega arith)
-  where
-    go : (words : List Word) (j : ℕ) → j < length words
-        → length (wordsBytes (x ∷ y ∷ []) (take (suc j) words)) ≡ length (wordsBytes (x ∷ y ∷ []) (take j words)) + (3 + length (getD words j []))
-    go [] j h = absurd (not-suc-le-zero h)
-    go (w ∷ words) zero h = simp length-append (omega arith)
-    go (w ∷ words) (suc j) h =
-        let i = go words j (le-of-suc-le-suc h) in
-        simp length-append (omega arith)
-
--- the letters after a length of the record at a place are the word
-pub here-part : {sheet : List ℕ} {k : ℕ} {w : Word} {place next size : ℕ} → Here sheet k w place next → size ≡ getD sheet (place + 2) 0
-    → take (place + 3 + size - (place + 3)) (drop (place + 3) sheet) ≡ w
-here-part {sheet} {k} {w} {place} {next} {size} h e =
-    let n : place + 3 + size - (place + 3) ≡ length w = omega (arith, h .size) in
-    ap (λ (i : ℕ). take i (drop (place + 3) sheet)) n ∙ h .letters
-
-module _ {sheet model : List ℕ} {m k : ℕ} (H : Held sheet model m k) where
-  -- the sheet's model is the machine that the words lend
-  pub model-is : modelOf (said sheet) ≡ link m k model
-  model-is = rw (H .states, H .letters, H .words) refl
-
-  pub reaching-start : 6 + m * (2 + 2 * k) ≡ reachingPlace (said sheet) 0
-  unfolding reachingPlace wordsBytes
-  reaching-start = rw (H .states, H .letters) (omega arith)
-
-  pub reaching-within : (k ≤ 12) × (6 + m * (2 + 2 * k) ≤ length sheet)
-  reaching-within = (H .sound .k-high, rw (H .states, H .letters) at (laid sheet (said sheet) [] (H .read) .start))
-
-  pub reaching-here : (j : ℕ) → j < m → Here sheet k (getD (said sheet .reaching) j []) (reachingPlace (said sheet) j) (reachingPlace (said sheet) (j + 1))
-  unfolding reachingPlace
-  reaching-here j h =
-      let P : Proof = said sheet in
-      let b : j < P .m = omega (arith, H .states) in
-      let l = laid sheet P [] (H .read) in
-      let i = reaching-records sheet P [] (H .read) .lie j b in
-      let long : j < length (P .reaching) = omega (arith, l .reaching .0) in
-      record {
-        within = i .within;
-        size = i .size;
-        letters = i .letters;
-        below = below-letters k (getD (P .reaching) j []) (subst (λ (z : ℕ). Below z (getD (P .reaching) j [])) (H .letters) (fits-at 0 47 (P .k) (P .reaching) j (l .reaching .1) long .2));
-        after = place-more 0x41 0x57 (6 + P .m * (2 + 2 * P .k)) (P .reaching) j long;
-      }
-
-  pub columns-many : length (said sheet .columns) ≡ said sheet .c
-  columns-many = laid sheet (said sheet) [] (H .read) .columns .0
-
-  pub column-here : (j : ℕ) → j < said sheet .c → Here sheet k (getD (said sheet .columns) j []) (columnPlace (said sheet) j) (columnPlace (said sheet) (j + 1))
-  unfolding columnPlace
-  column-here j h =
-      let P : Proof = said sheet in
-      let l = laid sheet P [] (H .read) in
-      let i = column-records sheet P [] (H .read) .lie j h in
-      let long : j < length (P .columns) = omega (arith, l .columns .0) in
-      record {
-        within = i .within;
-        size = i .size;
-        letters = i .letters;
-        below = below-letters k (getD (P .columns) j []) (subst (λ (z : ℕ). Below z (getD (P .columns) j [])) (H .letters) (fits-at 1 93 (P .k) (P .columns) j (l .columns .1) long .2));
-        after = place-more 0x43 0x57 (reachingPlace P (P .m)) (P .columns) j long;
-      }
+use Rattle.sheets.specs.CheckerLaws.{or-true}
+use Rattle.sheets.specs.Held.{said, said-is, Held, model-is, mapped-states}
 
 -- ---- loops over numbers: the start, one that passes, one that does not, the end
 pub begins : (p : ℕ → Bool) (n : ℕ) → allFrom p 0 n ≡ allFrom p 0 (n - 0)
@@ -210,10 +113,6 @@ same-test : (a b : Bool) → (a ≡ true → b ≡ true) → (b ≡ true → a �
 same-test true b f g = sym (f refl)
 same-test false true f g = g refl
 same-test false false f g = refl
-
-or-true : (a b : Bool) → b ≡ true → (a || b) ≡ true
-or-true true b e = refl
-or-true false b e = e
 
 module _ (M : Machine) (P : Proof) where
   told-turned : (i j : ℕ) → toldApart M P i j ≡ toldApart M P j i
@@ -332,52 +231,23 @@ module _ {n k : ℕ} {words : List ℕ} {m : ℕ} {model map : List ℕ} (G : Ma
 
 -- ---- the questions in order
 module _ {sheet model : List ℕ} {m k n c : ℕ} (H : Held sheet model m k) (e : readProof sheet ≡ gives (counts m k n c)) where
-  -- the counts that reading gave are those of the sheet
-  counted : counts (said sheet .m) (said sheet .k) (said sheet .n) (said sheet .c) ≡ counts m k n c
-  counted = let g = read-good sheet (counts m k n c) e in ap (λ (P : Proof). counts (P .m) (P .k) (P .n) (P .c)) (said-is sheet (g .1) (g .0) (g .2)) ∙ g .3
-
-  mapped-states : said sheet .n ≡ n
-  mapped-states = ap (λ (h : Counts). h .n) counted
-
-  -- the columns lie after the reaching words
-  pub columns-at : (recordPlace sheet (6 + m * (2 + 2 * k)) m ≤ length sheet) × Columns sheet (recordPlace sheet (6 + m * (2 + 2 * k)) m) c
-  unfolding columnPlace reachingPlace wordsBytes
-  columns-at =
-      let r = reaching-records sheet (said sheet) [] (H .read) .places (said sheet .m) (omega arith) in
-      let start : 6 + said sheet .m * (2 + 2 * said sheet .k) ≡ 6 + m * (2 + 2 * k) = rw (H .states, H .letters) refl in
-      let is : recordPlace sheet (6 + m * (2 + 2 * k)) m ≡ reachingPlace (said sheet) (said sheet .m) = (rw (start, H .states) at (r .0)) ∙ rw (start, H .states) refl in
-      (omega (arith, is, r .0, r .1), (omega (arith, is), ap (λ (h : Counts). h .c) counted))
-
-  -- the map lies at the end
-  pub map-is : (n ≤ length sheet) × (take (length sheet - (length sheet - n)) (drop (length sheet - n) sheet) ≡ said sheet .stateMap)
-  map-is =
-      let P : Proof = said sheet in
-      let end = map-ends sheet P [] (H .read) in
-      let at : length sheet - n ≡ mapPlace P + 2 = omega (arith, mapped-states) in
-      let rest : List ℕ = drop (length sheet - n) sheet in
-      (
-        omega (arith, mapped-states),
-        take-all (length sheet - (length sheet - n)) rest (omega (arith, length-drop (length sheet - n) sheet))
-        ∙ ap (λ (i : ℕ). drop i sheet) at ∙ sym (drop-drop 2 (mapPlace P) sheet) ∙ ap (drop 2) (map-lies sheet P [] (H .read)),
-      )
-
   pub mapping : {words : List ℕ} → Sound n k words → Mapping n k words m model (said sheet .stateMap)
   mapping sound =
       let l = laid sheet (said sheet) [] (H .read) in
       record {
         sound = sound;
         model-sound = H .sound;
-        long = l .states .0 ∙ mapped-states;
+        long = l .states .0 ∙ mapped-states H e;
         bytes = subst (λ (z : ℕ). allPass (mapByte z) (said sheet .stateMap) ≡ true) (H .states) (l .states .1);
       }
 
   pub map-same : (M : Machine) → mapHolds M (said sheet) ≡ mapHolds M (mapped n k m model (said sheet .stateMap))
-  map-same M = map-alone M (said sheet) ∙ rw (mapped-states, H .letters, H .states, H .words) refl
+  map-same M = map-alone M (said sheet) ∙ rw (mapped-states H e, H .letters, H .states, H .words) refl
 
   -- n and k are the machine's: the other three questions are left
   pub judge-same : (M : Machine) → judge n k M (said sheet) ≡ _>>_ (demand (reachesAll M (said sheet)) 12) (_>>_ (demand (allApart M (said sheet)) 13) (demand (mapHolds M (said sheet)) 14))
   unfolding judge
-  judge-same M = rw (is-true (said sheet .n) n mapped-states, is-true (said sheet .k) k (H .letters)) refl
+  judge-same M = rw (is-true (said sheet .n) n (mapped-states H e), is-true (said sheet .k) k (H .letters)) refl
 
 -- ---- a sheet that is refused, one of another size, and one that is judged
 pub judge-refused : (n k : ℕ) (M : Machine) (sheet : List ℕ) (x : ℕ) → readProof sheet ≡ refused x → judgeSheet n k M (proofSheet sheet) ≡ refused x
@@ -392,14 +262,6 @@ module _ (n k : ℕ) (M : Machine) (sheet : List ℕ) (h : Counts) (e : readProo
   pub judge-said : judgeSheet n k M (proofSheet sheet) ≡ judge n k M (said sheet)
   judge-said = let g = read-good sheet h e in ap (judgeSheet n k M) (g .2) ∙ ap (judge n k M) (sym (said-is sheet (g .1) (g .0) (g .2)))
 
-  -- the model's rows are in the sheet, and their words go into 576
-  pub rows-in : (h .m * h .k ≤ 576) × (6 + h .m * (2 + 2 * h .k) ≤ length sheet)
-  rows-in =
-      let g = read-good sheet h e in
-      let l = laid sheet (g .0) (g .1) (g .2) in
-      let r : InRange h = subst InRange (sym (l .said) ∙ g .3) (l .head .ranges) in
-      (omega (arith, mul-le-mul {n₁ = h .m} {m₁ = h .k} {n₂ = 48} {m₂ = 12} (r .m-high) (r .k-high)), subst (λ (h : Counts). 6 + h .m * (2 + 2 * h .k) ≤ length sheet) (g .3) (l .start))
-
   -- 11
   pub judge-other : (eqb (h .n) n && eqb (h .k) k) ≡ false → judgeSheet n k M (proofSheet sheet) ≡ refused 11
   unfolding judge
@@ -407,30 +269,3 @@ module _ (n k : ℕ) (M : Machine) (sheet : List ℕ) (h : Counts) (e : readProo
       let g = read-good sheet h e in
       let c : (eqb (g .0 .n) n && eqb (g .0 .k) k) ≡ false = ap (λ (h : Counts). eqb (h .n) n && eqb (h .k) k) (g .3) ∙ t in
       ap (judgeSheet n k M) (g .2) ∙ rw c refl
-
-bytes-below : (bytes : List ℕ) → ((i : ℕ) → getD bytes i 0 < 256) → Below 256 bytes
-bytes-below [] f = tt
-bytes-below (x ∷ bytes) f = (f 0, bytes-below bytes (λ i. f (suc i)))
-
--- the model's words, put into an area, are what the code holds
-pub held : (sheet area : List ℕ) (h : Counts) → ((i : ℕ) → getD sheet i 0 < 256) → readProof sheet ≡ gives h
-    → Held sheet (take (h .m * h .k) (put 0 (rowWords (h .k) (h .m) (drop 6 sheet)) area)) (h .m) (h .k)
-unfolding put
-held sheet area h b e =
-    let g = read-good sheet h e in
-    let P : Proof = g .0 in
-    let r = read-readable sheet P (g .1) (g .2) (bytes-below sheet b) in
-    let is : said sheet ≡ P = said-is sheet (g .1) P (g .2) in
-    let m : P .m ≡ h .m = ap (λ (h : Counts). h .m) (g .3) in
-    let k : P .k ≡ h .k = ap (λ (h : Counts). h .k) (g .3) in
-    let words : List ℕ = rowWords (h .k) (h .m) (drop 6 sheet) in
-    let front : take (h .m * h .k) (put 0 words area) ≡ words = take-at words (drop (0 + length words) area) (h .m * h .k) (row-words-length (h .k) (h .m) (drop 6 sheet)) in
-    let model : P .model ≡ words = (rw (m, k) at (laid sheet P (g .1) (g .2) .model .is)) in
-    let all : P .model ≡ take (h .m * h .k) (put 0 words area) = model ∙ sym front in
-    record {
-      read = g .2 ∙ rw (read-ends sheet P (g .1) (g .2)) (ap (λ (Q : Proof). good Q []) (sym is));
-      states = ap (λ (Q : Proof). Q .m) is ∙ m;
-      letters = ap (λ (Q : Proof). Q .k) is ∙ k;
-      words = ap (λ (Q : Proof). Q .model) is ∙ all;
-      sound = rw (m, k, all) at (model-sound P r);
-    }

@@ -1,4 +1,5 @@
-use Rattle.sheets.specs.CheckerSteps.{said, Held, apartBefore, apart-asked, begins, passes, fails, ends}
+use Rattle.sheets.specs.Held.{said, Held}
+use Rattle.sheets.specs.CheckerSteps.{apartBefore, apart-asked, begins, passes, fails, ends}
 use Rattle.machine.specs.Lent.{link}
 use Rattle.rules.specs.Tests.{allFrom}
 use borrow.Author.Tests.{not-true, not-false}
@@ -19,31 +20,24 @@ Inv-loop sheet at c model m k i₀ i = (i ≤ m) × (allFrom (apartBefore (link 
 abbrev μ-loop : tie.MeasureT-loop
 μ-loop sheet at c model m k i₀ i = m - i
 
--- src/checker.rt:126:5
 loop-holds : tie.Need-loop-holds Inv-loop μ-loop
 loop-holds c = let a = c .before .before .args in (search needs, begins (apartBefore (link (a .m) (a .k) (a .model .now)) (said (a .sheet .now))) (a .m))
 
--- src/checker.rt:127:13
 apart-from-earlier-requires : tie.Need-apart-from-earlier-requires Inv-loop μ-loop
 apart-from-earlier-requires c κs = let p = c .before .before .before .before .pre in (p .0, (p .1, c .loop-test .taken))
 
--- src/checker.rt:128:13
 returns : tie.Need-returns Inv-loop μ-loop
 returns c = let a = c .before .before .before .before .before .before .args in let l = c .before .before .before .loop in let M = link (a .m) (a .k) (a .model .now) in sym (apart-asked (c .before .before .before .before .before .before .pre .0) M ∙ l .inv .1 ∙ fails (apartBefore M (said (a .sheet .now))) (a .m) (l .i) (c .before .before .loop-test .taken) (sym (c .before .apart-from-earlier .ensures) ∙ not-true (c .before .apart-from-earlier .result) (c .if1 .taken)))
 
--- src/checker.rt:130:9
 add-i : tie.Need-add-i Inv-loop μ-loop
 add-i c = search needs
 
--- src/checker.rt:126:5
 loop-less : tie.Need-loop-less Inv-loop μ-loop
 loop-less c = search needs
 
--- src/checker.rt:126:5
 loop-again : tie.Need-loop-again Inv-loop μ-loop
 loop-again c = let a = c .before .before .before .before .before .before .args in let l = c .before .before .before .loop in (search needs, l .inv .1 ∙ passes (apartBefore (link (a .m) (a .k) (a .model .now)) (said (a .sheet .now))) (a .m) (l .i) (c .before .before .loop-test .taken) (sym (c .before .apart-from-earlier .ensures) ∙ not-false (c .before .apart-from-earlier .result) (c .if1 .left)))
 
--- src/checker.rt:120:1
 returns-2 : tie.Need-returns-2 Inv-loop μ-loop
 returns-2 c = let a = c .before .before .before .before .args in let l = c .before .loop in let M = link (a .m) (a .k) (a .model .now) in sym (apart-asked (c .before .before .before .before .pre .0) M ∙ l .inv .1 ∙ ends (apartBefore M (said (a .sheet .now))) (a .m) (l .i) (c .loop-test .left))
 

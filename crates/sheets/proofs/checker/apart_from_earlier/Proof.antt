@@ -1,4 +1,5 @@
-use Rattle.sheets.specs.CheckerSteps.{said, apartBefore, begins, passes, fails, ends}
+use Rattle.sheets.specs.Held.{said}
+use Rattle.sheets.specs.CheckerSteps.{apartBefore, begins, passes, fails, ends}
 use Rattle.sheets.specs.Checker.{toldApart}
 use Rattle.machine.specs.Lent.{link}
 use Rattle.rules.specs.Tests.{allFrom}
@@ -20,32 +21,25 @@ Inv-loop sheet at c model m k i j₀ j = (j ≤ i) × (apartBefore (link m k mod
 abbrev μ-loop : tie.MeasureT-loop
 μ-loop sheet at c model m k i j₀ j = i - j
 
--- src/checker.rt:110:5
 loop-holds : tie.Need-loop-holds Inv-loop μ-loop
 unfolding apartBefore
 loop-holds c = let a = c .before .before .args in (search needs, begins (toldApart (link (a .m) (a .k) (a .model .now)) (said (a .sheet .now)) (a .i)) (a .i))
 
--- src/checker.rt:111:13
 told-apart-requires : tie.Need-told-apart-requires Inv-loop μ-loop
 told-apart-requires c κs = let p = c .before .before .before .before .pre in (p .0, (p .1 .0, (p .1 .1, omega (arith, p .1 .1, c .loop-test .taken))))
 
--- src/checker.rt:112:13
 returns : tie.Need-returns Inv-loop μ-loop
 returns c = let a = c .before .before .before .before .before .before .args in let l = c .before .before .before .loop in sym (l .inv .1 ∙ fails (toldApart (link (a .m) (a .k) (a .model .now)) (said (a .sheet .now)) (a .i)) (a .i) (l .j) (c .before .before .loop-test .taken) (sym (c .before .told-apart .ensures) ∙ not-true (c .before .told-apart .result) (c .if1 .taken)))
 
--- src/checker.rt:114:9
 add-j : tie.Need-add-j Inv-loop μ-loop
 add-j c = search needs
 
--- src/checker.rt:110:5
 loop-less : tie.Need-loop-less Inv-loop μ-loop
 loop-less c = search needs
 
--- src/checker.rt:110:5
 loop-again : tie.Need-loop-again Inv-loop μ-loop
 loop-again c = let a = c .before .before .before .before .before .before .args in let l = c .before .before .before .loop in (search needs, l .inv .1 ∙ passes (toldApart (link (a .m) (a .k) (a .model .now)) (said (a .sheet .now)) (a .i)) (a .i) (l .j) (c .before .before .loop-test .taken) (sym (c .before .told-apart .ensures) ∙ not-false (c .before .told-apart .result) (c .if1 .left)))
 
--- src/checker.rt:103:1
 returns-2 : tie.Need-returns-2 Inv-loop μ-loop
 returns-2 c = let a = c .before .before .before .before .args in let l = c .before .loop in sym (l .inv .1 ∙ ends (toldApart (link (a .m) (a .k) (a .model .now)) (said (a .sheet .now)) (a .i)) (a .i) (l .j) (c .loop-test .left))
 

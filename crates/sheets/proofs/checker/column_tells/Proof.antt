@@ -9,15 +9,12 @@ use Rattle.sheets.proofs.checker.column_tells.Tie as tie
 use Rattle.sheets.proofs.checker.column_tells.Reads as reads
 use Rattle.sheets.proofs.checker.column_tells.Lts as lts
 
--- src/checker.rt:69:5
 last-from-requires : tie.Need-last-from-requires
 last-from-requires c κs = let p = c .before .before .pre in (p .0, (p .1 .0, p .1 .2))
 
--- src/checker.rt:69:42
 last-from-requires-2 : tie.Need-last-from-requires-2
 last-from-requires-2 c κs = let p = c .before .before .before .pre in (p .0, (p .1 .1, p .1 .2))
 
--- src/checker.rt:64:1
 returns : tie.Need-returns
 unfolding tells
 returns c = rw (c .last-from2 .ensures, c .before .last-from .ensures) refl

@@ -1,5 +1,6 @@
+use Rattle.sheets.specs.Held.{Held, held, rows-in}
+use Rattle.sheets.specs.CheckerSteps.{judge-refused, judge-other, judge-said}
 use lib.Seq.{length-take-le}
-use Rattle.sheets.specs.CheckerSteps.{Held, held, rows-in, judge-refused, judge-other, judge-said}
 use Rattle.sheets.specs.ProofAnswers.{readOf}
 use Rattle.sheets.specs.ProofParts.{counts}
 use Rattle.sheets.specs.Proofs.{Counts, readProof}
@@ -18,7 +19,6 @@ use Rattle.sheets.proofs.checker.judge.Lts as lts
 use Rattle.sheets.proofs.checker.questions.Reads as questions-reads
 use Rattle.sheets.proofs.machines.set_rows.Reads as set-rows-reads
 
--- lemma-begin
 -- what reading said
 abbrev said : (c : tie.After-known-told2) → Counts
 said c = counts (c .before .p2 .given .0 .0) (c .before .p2 .given .0 .1 .0) (c .before .p2 .given .0 .1 .1 .0) (c .before .p2 .given .0 .1 .1 .1 .0)
@@ -30,53 +30,39 @@ was-read c = sym (c .before .before .before .before .before .pre .1) ∙ ap read
 counted : (c : tie.Else2) → readProof (c .before .before .before .before .before .before .before .args .sheet .now) ≡ gives (counts (c .before .before .before .p2 .given .0 .0) (c .before .before .before .before .before .before .before .args .k) (c .before .before .before .before .before .before .before .args .n) (c .before .before .before .p2 .given .0 .1 .1 .1 .0))
 counted c = rw (c .before .if1 .left, c .if2 .left) at (was-read (c .before .before))
 
--- lemma-end
-
--- src/checker.rt:214:28
 enum-known-p : tie.Need-enum-known-p
 enum-known-p c = search needs
 
--- src/checker.rt:215:27
 enum-known-p-2 : tie.Need-enum-known-p-2
 enum-known-p-2 c = search needs
 
--- src/checker.rt:217:17
 returns : tie.Need-returns
 returns c = let a = c .before .before .before .before .before .before .args in sym (judge-other (a .n) (a .k) (link (a .n) (a .k) (a .words .now)) (a .sheet .now) (said (c .before)) (was-read (c .before)) (rw (is-false _ _ (c .if1 .taken)) refl))
 
--- src/checker.rt:220:17
 returns-2 : tie.Need-returns-2
 returns-2 c = let a = c .before .before .before .before .before .before .before .args in sym (judge-other (a .n) (a .k) (link (a .n) (a .k) (a .words .now)) (a .sheet .now) (said (c .before .before)) (was-read (c .before .before)) (rw (is-true _ _ (c .before .if1 .left), is-false _ _ (c .if2 .taken)) refl))
 
--- src/checker.rt:223:32
 slice-aggregate-set-rows : tie.Need-slice-aggregate-set-rows
 slice-aggregate-set-rows c = search needs
 
--- src/checker.rt:223:13
 set-rows-requires : tie.Need-set-rows-requires
-set-rows-requires c κs = let a = c .before .before .before .before .before .before .before .before .args in rows-in (a .n) (a .k) (link (a .n) (a .k) (a .words .now)) (a .sheet .now) _ (counted (c .before))
+set-rows-requires c κs = let a = c .before .before .before .before .before .before .before .before .args in rows-in (a .sheet .now) _ (counted (c .before))
 
--- src/checker.rt:224:24
 mul-size : tie.Need-mul-size
-mul-size c = let a = c .before .before .before .before .before .before .before .before .before .before .args in omega (arith, rows-in (a .n) (a .k) (link (a .n) (a .k) (a .words .now)) (a .sheet .now) _ (counted (c .before .before .before)) .0)
+mul-size c = let a = c .before .before .before .before .before .before .before .before .before .before .args in omega (arith, rows-in (a .sheet .now) _ (counted (c .before .before .before)) .0)
 
--- src/checker.rt:225:43
 array-share-prefix-model : tie.Need-array-share-prefix-model
-array-share-prefix-model c = let a = c .before .before .before .before .before .before .before .before .before .before .args in omega (arith, rows-in (a .n) (a .k) (link (a .n) (a .k) (a .words .now)) (a .sheet .now) _ (counted (c .before .before .before)) .0)
+array-share-prefix-model c = let a = c .before .before .before .before .before .before .before .before .before .before .args in omega (arith, rows-in (a .sheet .now) _ (counted (c .before .before .before)) .0)
 
--- src/checker.rt:225:43
 slice-aggregate-questions : tie.Need-slice-aggregate-questions
-slice-aggregate-questions c = let a = c .before .before .before .before .before .before .before .before .before .before .before .args in sym (length-take-le _ _ (omega (arith, rows-in (a .n) (a .k) (link (a .n) (a .k) (a .words .now)) (a .sheet .now) _ (counted (c .before .before .before .before)) .0, c .before .before .set-rows .kept .0)))
+slice-aggregate-questions c = let a = c .before .before .before .before .before .before .before .before .before .before .before .args in sym (length-take-le _ _ (omega (arith, rows-in (a .sheet .now) _ (counted (c .before .before .before .before)) .0, c .before .before .set-rows .kept .0)))
 
--- src/checker.rt:225:13
 questions-requires : tie.Need-questions-requires
-questions-requires c κs = let a = c .before .before .before .before .before .before .before .before .before .before .before .args in (c .before .before .before .before .before .before .before .before .before .before .before .pre .0, (rw (c .before .before .set-rows .ensures) (held (a .sheet .now) _ _ (λ i. omega (arith, c .before .before .before .before .before .before .before .before .before .shared-slice-known2 .given i)) (counted (c .before .before .before .before))), counted (c .before .before .before .before)))
+questions-requires c κs = let a = c .before .before .before .before .before .before .before .before .before .before .before .args in (c .before .before .before .before .before .before .before .before .before .before .before .pre .0, (rw (c .before .before .set-rows .ensures) (held (a .sheet .now) _ (counted (c .before .before .before .before)) _ (λ i. omega (arith, c .before .before .before .before .before .before .before .before .before .shared-slice-known2 .given i))), counted (c .before .before .before .before)))
 
--- src/checker.rt:208:1
 returns-3 : tie.Need-returns-3
 returns-3 c = let a = c .before .before .before .before .before .args in sym (judge-refused (a .n) (a .k) (link (a .n) (a .k) (a .words .now)) (a .sheet .now) _ (sym (c .before .before .before .before .before .pre .1) ∙ ap readOf (c .before .p .given .1)))
 
--- src/checker.rt:208:1
 returns-4 : tie.Need-returns-4
 returns-4 c = let a = c .before .before .before .before .before .before .before .before .before .before .before .before .args in c .questions .ensures ∙ sym (judge-said (a .n) (a .k) (link (a .n) (a .k) (a .words .now)) (a .sheet .now) _ (counted (c .before .before .before .before .before)))
 

@@ -19,39 +19,30 @@ Inv-loop words n k model m map s₀ s = (s ≤ n) × (allFrom (stateAgrees (link
 abbrev μ-loop : tie.MeasureT-loop
 μ-loop words n k model m map s₀ s = n - s
 
--- src/checker.rt:172:8
 shared-slice-read-if1 : tie.Need-shared-slice-read-if1 Inv-loop μ-loop
 shared-slice-read-if1 c = omega (arith, c .before .before .before .before .pre .long, c .before .before .before .before .pre .sound .n-low)
 
--- src/checker.rt:173:9
 returns : tie.Need-returns Inv-loop μ-loop
 returns c = sym (holds-not (c .before .before .before .before .before .pre) (c .if1 .taken))
 
--- src/checker.rt:176:5
 loop-holds : tie.Need-loop-holds Inv-loop μ-loop
 loop-holds c = let a = c .before .before .before .before .before .args in (search needs, begins (stateAgrees (link (a .n) (a .k) (a .words .now)) (mapped (a .n) (a .k) (a .m) (a .model .now) (a .map .now))) (a .n))
 
--- src/checker.rt:177:13
 state-agrees-requires : tie.Need-state-agrees-requires Inv-loop μ-loop
 state-agrees-requires c κs = (c .before .before .before .before .before .before .before .pre, c .loop-test .taken)
 
--- src/checker.rt:178:13
 returns-2 : tie.Need-returns-2 Inv-loop μ-loop
 returns-2 c = let a = c .before .before .before .before .before .before .before .before .before .args in let l = c .before .before .before .loop in sym (holds-from (c .before .before .before .before .before .before .before .before .before .pre) (c .before .before .before .before .if1 .left) ∙ l .inv .1 ∙ fails (stateAgrees (link (a .n) (a .k) (a .words .now)) (mapped (a .n) (a .k) (a .m) (a .model .now) (a .map .now))) (a .n) (l .s) (c .before .before .loop-test .taken) (sym (c .before .state-agrees .ensures) ∙ not-true (c .before .state-agrees .result) (c .if2 .taken)))
 
--- src/checker.rt:180:9
 add-s : tie.Need-add-s Inv-loop μ-loop
 add-s c = search needs
 
--- src/checker.rt:176:5
 loop-less : tie.Need-loop-less Inv-loop μ-loop
 loop-less c = search needs
 
--- src/checker.rt:176:5
 loop-again : tie.Need-loop-again Inv-loop μ-loop
 loop-again c = let a = c .before .before .before .before .before .before .before .before .before .args in let l = c .before .before .before .loop in (search needs, l .inv .1 ∙ passes (stateAgrees (link (a .n) (a .k) (a .words .now)) (mapped (a .n) (a .k) (a .m) (a .model .now) (a .map .now))) (a .n) (l .s) (c .before .before .loop-test .taken) (sym (c .before .state-agrees .ensures) ∙ not-false (c .before .state-agrees .result) (c .if2 .left)))
 
--- src/checker.rt:168:1
 returns-3 : tie.Need-returns-3 Inv-loop μ-loop
 returns-3 c = let a = c .before .before .before .before .before .before .before .args in let l = c .before .loop in sym (holds-from (c .before .before .before .before .before .before .before .pre) (c .before .before .if1 .left) ∙ l .inv .1 ∙ ends (stateAgrees (link (a .n) (a .k) (a .words .now)) (mapped (a .n) (a .k) (a .m) (a .model .now) (a .map .now))) (a .n) (l .s) (c .loop-test .left))
 

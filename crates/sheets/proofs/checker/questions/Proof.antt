@@ -1,5 +1,5 @@
-use Rattle.sheets.specs.CheckerSteps.{Mapping, mapped}
-use Rattle.sheets.specs.CheckerSteps.{said, reaches-alone, apart-alone, columns-at, map-is, mapping, map-same, judge-same}
+use Rattle.sheets.specs.Held.{said, columns-at, map-is}
+use Rattle.sheets.specs.CheckerSteps.{Mapping, mapped, reaches-alone, apart-alone, mapping, map-same, judge-same}
 use Rattle.sheets.specs.Checker.{reachesAll, allApart, mapHolds}
 use Rattle.machine.specs.Lent.{link}
 use Rattle.rules.specs.Machine.{Machine}
@@ -20,7 +20,6 @@ use Rattle.sheets.proofs.checker.map_holds.Reads as map-holds-reads
 use Rattle.sheets.proofs.checker.reaches_all.Reads as reaches-all-reads
 use Rattle.sheets.proofs.proofs.record_place.Reads as record-place-reads
 
--- lemma-begin
 -- 12 came out as it does for the machine
 reached : (c : tie.After-reaches-all) → let a = c .before .before .before .before .args in reachesAll (link (a .n) (a .k) (a .words .now)) (said (a .sheet .now)) ≡ c .reaches-all .result
 reached c = let a = c .before .before .before .before .args in reaches-alone (link (a .n) (a .k) (a .words .now)) (link (a .m) (a .k) (a .model .now)) (said (a .sheet .now)) ∙ sym (c .reaches-all .ensures)
@@ -37,69 +36,51 @@ holds c =
     let M = link (a .n) (a .k) (a .words .now) in
     map-same (p .1 .0) (p .1 .1) M ∙ sym (c .map-holds .ensures ∙ ap (λ (map : List ℕ). mapHolds M (mapped (a .n) (a .k) (a .m) (a .model .now) map)) (map-is (p .1 .0) (p .1 .1) .1))
 
--- lemma-end
-
--- src/checker.rt:192:9
 reaches-all-requires : tie.Need-reaches-all-requires
 reaches-all-requires c κs = search needs
 
--- src/checker.rt:193:9
 returns : tie.Need-returns
 returns c = let a = c .before .before .before .before .before .args in let p = c .before .before .before .before .before .pre in sym (judge-same (p .1 .0) (p .1 .1) (link (a .n) (a .k) (a .words .now)) ∙ rw (reached (c .before) ∙ not-true (c .before .reaches-all .result) (c .if1 .taken)) refl)
 
--- src/checker.rt:195:55
 mul-record-place : tie.Need-mul-record-place
 mul-record-place c = search needs
 
--- src/checker.rt:195:51
 add-record-place : tie.Need-add-record-place
 add-record-place c = search needs
 
--- src/checker.rt:195:46
 mul-record-place-2 : tie.Need-mul-record-place-2
 mul-record-place-2 c = search needs
 
--- src/checker.rt:195:42
 add-record-place-2 : tie.Need-add-record-place-2
 add-record-place-2 c = search needs
 
--- src/checker.rt:195:9
 record-place-requires : tie.Need-record-place-requires
 record-place-requires c κs = let p = c .before .before .before .before .before .pre in columns-at (p .1 .0) (p .1 .1) .0
 
--- src/checker.rt:196:9
 all-apart-requires : tie.Need-all-apart-requires
 all-apart-requires c κs = let p = c .before .before .before .before .before .before .pre in (p .1 .0, rw (c .record-place .ensures) (columns-at (p .1 .0) (p .1 .1) .1))
 
--- src/checker.rt:197:9
 returns-2 : tie.Need-returns-2
 returns-2 c = let a = c .before .before .before .before .before .before .before .before .args in let p = c .before .before .before .before .before .before .before .before .pre in sym (judge-same (p .1 .0) (p .1 .1) (link (a .n) (a .k) (a .words .now)) ∙ rw (reached (c .before .before .before .before) ∙ not-false (c .before .before .before .before .reaches-all .result) (c .before .before .before .if1 .left), apart (c .before) ∙ not-true (c .before .all-apart .result) (c .if2 .taken)) refl)
 
--- src/checker.rt:199:15
 sub-map : tie.Need-sub-map
 sub-map c = let p = c .before .before .before .before .before .before .before .before .pre in map-is (p .1 .0) (p .1 .1) .0
 
--- src/checker.rt:200:41
 sub-map-holds : tie.Need-sub-map-holds
 sub-map-holds c = search needs
 
--- src/checker.rt:200:41
 part-map-holds-start : tie.Need-part-map-holds-start
 part-map-holds-start c = search needs
 
--- src/checker.rt:200:41
 part-map-holds-end : tie.Need-part-map-holds-end
 part-map-holds-end c = search needs
 
--- src/checker.rt:200:8
 map-holds-requires : tie.Need-map-holds-requires
 map-holds-requires c κs = let a = c .before .before .before .before .before .before .before .before .before .args in let p = c .before .before .before .before .before .before .before .before .before .pre in rw (map-is (p .1 .0) (p .1 .1) .1) (mapping (p .1 .0) (p .1 .1) (p .0))
 
--- src/checker.rt:186:1
 returns-3 : tie.Need-returns-3
 returns-3 c = let a = c .before .before .before .before .before .before .before .before .before .before .before .args in let p = c .before .before .before .before .before .before .before .before .before .before .before .pre in sym (judge-same (p .1 .0) (p .1 .1) (link (a .n) (a .k) (a .words .now)) ∙ rw (reached (c .before .before .before .before .before .before .before) ∙ not-false (c .before .before .before .before .before .before .before .reaches-all .result) (c .before .before .before .before .before .before .if1 .left), apart (c .before .before .before .before) ∙ not-false (c .before .before .before .before .all-apart .result) (c .before .before .before .if2 .left), holds (c .before) ∙ c .if3 .taken) refl)
 
--- src/checker.rt:186:1
 returns-4 : tie.Need-returns-4
 returns-4 c = let a = c .before .before .before .before .before .before .before .before .before .before .before .args in let p = c .before .before .before .before .before .before .before .before .before .before .before .pre in sym (judge-same (p .1 .0) (p .1 .1) (link (a .n) (a .k) (a .words .now)) ∙ rw (reached (c .before .before .before .before .before .before .before) ∙ not-false (c .before .before .before .before .before .before .before .reaches-all .result) (c .before .before .before .before .before .before .if1 .left), apart (c .before .before .before .before) ∙ not-false (c .before .before .before .before .all-apart .result) (c .before .before .before .if2 .left), holds (c .before) ∙ c .if3 .left) refl)
 

@@ -1,4 +1,5 @@
-use Rattle.sheets.specs.CheckerSteps.{said, Held, Here, here-part, reached, reaching-start, reaching-within, reaching-here, reaches-from, begins, passes, fails, ends}
+use Rattle.sheets.specs.Held.{said, Held, Here, here-part, reaching-start, reaching-within, reaching-here}
+use Rattle.sheets.specs.CheckerSteps.{reached, reaches-from, begins, passes, fails, ends}
 use Rattle.sheets.specs.ProofParts.{reachingPlace}
 use Rattle.machine.specs.LentLaws.{sound-steps}
 use Rattle.machine.specs.Lent.{link}
@@ -24,7 +25,6 @@ Inv-loop sheet model m k place₀ state₀ place state = (state ≤ m) × (place
 abbrev μ-loop : tie.MeasureT-loop
 μ-loop sheet model m k place₀ state₀ place state = m - state
 
--- lemma-begin
 -- the word of this turn, in the sheet
 here : (c : tie.In-loop Inv-loop μ-loop) → let a = c .before .before .before .before .args in let l = c .before .loop in Here (a .sheet .now) (a .k) (getD (said (a .sheet .now) .reaching) (l .state) []) (l .place) (reachingPlace (said (a .sheet .now)) (l .state + 1))
 here c = let l = c .before .loop in rw (l .inv .1) (reaching-here (c .before .before .before .before .pre) (l .state) (c .loop-test .taken))
@@ -33,77 +33,57 @@ here c = let l = c .before .loop in rw (l .inv .1) (reaching-here (c .before .be
 word : (c : tie.After-state-after-arg Inv-loop μ-loop) → let a = c .before .before .before .before .before .before .before .args in let l = c .before .before .before .before .loop in take (l .place + 3 + c .before .wide .result - (l .place + 3)) (drop (l .place + 3) (a .sheet .now)) ≡ getD (said (a .sheet .now) .reaching) (l .state) []
 word c = here-part (here (c .before .before .before)) (c .before .wide .ensures)
 
--- lemma-end
-
--- src/checker.rt:49:34
 mul-place : tie.Need-mul-place Inv-loop μ-loop
 mul-place c = let h = reaching-within (c .before .before .pre) in search needs
 
--- src/checker.rt:49:30
 add-place : tie.Need-add-place Inv-loop μ-loop
 add-place c = let h = reaching-within (c .before .before .pre) in search needs
 
--- src/checker.rt:49:25
 mul-place-2 : tie.Need-mul-place-2 Inv-loop μ-loop
 mul-place-2 c = let h = reaching-within (c .before .before .pre) in omega arith
 
--- src/checker.rt:49:21
 add-place-2 : tie.Need-add-place-2 Inv-loop μ-loop
 add-place-2 c = let h = reaching-within (c .before .before .pre) in omega arith
 
--- src/checker.rt:51:5
 loop-holds : tie.Need-loop-holds Inv-loop μ-loop
 loop-holds c = let a = c .before .before .args in (search needs, reaching-start (c .before .before .pre), begins (reached (link (a .m) (a .k) (a .model .now)) (said (a .sheet .now))) (a .m))
 
--- src/checker.rt:52:20
 add-from : tie.Need-add-from Inv-loop μ-loop
 add-from c = omega (arith, here c .within)
 
--- src/checker.rt:53:46
 add-wide : tie.Need-add-wide Inv-loop μ-loop
 add-wide c = omega (arith, here c .within)
 
--- src/checker.rt:53:40
 shared-slice-read-wide : tie.Need-shared-slice-read-wide Inv-loop μ-loop
 shared-slice-read-wide c = omega (arith, here (c .before) .within)
 
--- src/checker.rt:53:26
 wide-requires : tie.Need-wide-requires Inv-loop μ-loop
 wide-requires c κs = search needs
 
--- src/checker.rt:53:19
 add-end : tie.Need-add-end Inv-loop μ-loop
 add-end c = omega (arith, here (c .before .before) .within, here (c .before .before) .size, c .wide .ensures)
 
--- src/checker.rt:54:46
 sub-state-after : tie.Need-sub-state-after Inv-loop μ-loop
 sub-state-after c = search needs
 
--- src/checker.rt:54:46
 part-state-after-start : tie.Need-part-state-after-start Inv-loop μ-loop
 part-state-after-start c = search needs
 
--- src/checker.rt:54:46
 part-state-after-end : tie.Need-part-state-after-end Inv-loop μ-loop
 part-state-after-end c = omega (arith, here (c .before .before) .within, here (c .before .before) .size, c .wide .ensures)
 
--- src/checker.rt:54:12
 state-after-requires : tie.Need-state-after-requires Inv-loop μ-loop
 state-after-requires c κs = (sound-steps (c .before .before .before .before .before .before .before .pre .sound), rw (word c) (here (c .before .before .before) .below))
 
--- src/checker.rt:55:13
 returns : tie.Need-returns Inv-loop μ-loop
 returns c = let a = c .before .before .before .before .before .before .before .before .before .args in let l = c .before .before .before .before .before .before .loop in let e = c .before .state-after .ensures ∙ ap (walk (link (a .m) (a .k) (a .model .now) .next) 0) (word (c .before .before)) in sym (reaches-from (c .before .before .before .before .before .before .before .before .before .pre) (link (a .m) (a .k) (a .model .now)) ∙ l .inv .2 ∙ fails (reached (link (a .m) (a .k) (a .model .now)) (said (a .sheet .now))) (a .m) (l .state) (c .before .before .before .before .before .loop-test .taken) (is-false _ _ (λ q. c .if1 .taken (e ∙ q))))
 
--- src/checker.rt:58:9
 add-state : tie.Need-add-state Inv-loop μ-loop
 add-state c = search needs
 
--- src/checker.rt:51:5
 loop-less : tie.Need-loop-less Inv-loop μ-loop
 loop-less c = search needs
 
--- src/checker.rt:51:5
 loop-again : tie.Need-loop-again Inv-loop μ-loop
 loop-again c = let a = c .before .before .before .before .before .before .before .before .before .args in let l = c .before .before .before .before .before .before .loop in let e = c .before .state-after .ensures ∙ ap (walk (link (a .m) (a .k) (a .model .now) .next) 0) (word (c .before .before)) in (
   search needs,
@@ -111,7 +91,6 @@ loop-again c = let a = c .before .before .before .before .before .before .before
   l .inv .2 ∙ passes (reached (link (a .m) (a .k) (a .model .now)) (said (a .sheet .now))) (a .m) (l .state) (c .before .before .before .before .before .loop-test .taken) (is-true _ _ (sym e ∙ c .if1 .left)),
 )
 
--- src/checker.rt:45:1
 returns-2 : tie.Need-returns-2 Inv-loop μ-loop
 returns-2 c = let a = c .before .before .before .before .args in let l = c .before .loop in sym (reaches-from (c .before .before .before .before .pre) (link (a .m) (a .k) (a .model .now)) ∙ l .inv .2 ∙ ends (reached (link (a .m) (a .k) (a .model .now)) (said (a .sheet .now))) (a .m) (l .state) (c .loop-test .left))
 

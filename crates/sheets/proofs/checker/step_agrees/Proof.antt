@@ -1,5 +1,5 @@
-use Rattle.rules.specs.Tests.{is-true, is-false}
 use Rattle.sheets.specs.CheckerSteps.{word-in, model-in, next-in, step-is}
+use Rattle.rules.specs.Tests.{is-true, is-false}
 use native.Mathlib.Omega.{arith}
 use mathlib.Core.Path.{_≡_, refl, sym, ap, _∙_}
 use Prim.Native.Nat.{ℕ, _+_, _*_, _-_, _/_, _%_, _<_, _≤_}
@@ -13,43 +13,33 @@ use Rattle.machine.proofs.next.Reads as next-reads
 use Rattle.machine.proofs.output.Reads as output-reads
 use Rattle.machine.proofs.wide.Reads as wide-reads
 
--- src/checker.rt:141:31
 shared-slice-read-wide : tie.Need-shared-slice-read-wide
 shared-slice-read-wide c = let a = c .before .before .before .before .args in omega (arith, c .before .before .before .before .pre .0 .long, c .before .before .before .before .pre .1 .0)
 
--- src/checker.rt:141:9
 wide-requires : tie.Need-wide-requires
 wide-requires c κs = search needs
 
--- src/checker.rt:142:8
 output-requires : tie.Need-output-requires
 output-requires c κs = let a = c .before .before .before .before .before .args in word-in (c .before .before .before .before .before .pre .0) (a .s) (a .a) (c .before .before .before .before .before .pre .1 .0) (c .before .before .before .before .before .pre .1 .1)
 
--- src/checker.rt:142:43
 output-requires-2 : tie.Need-output-requires-2
 output-requires-2 c κs = let a = c .before .before .before .before .before .before .args in rw (c .before .wide .ensures) (model-in (c .before .before .before .before .before .before .pre .0) (getD (a .map .now) (a .s) 0) (a .a) (c .before .before .before .before .before .before .pre .1 .2) (c .before .before .before .before .before .before .pre .1 .1))
 
--- src/checker.rt:143:9
 returns : tie.Need-returns
 returns c = let a = c .before .before .before .before .before .before .before .before .args in let t = step-is (c .before .before .before .before .before .before .before .before .pre .0) (a .s) (a .a) (c .before .before .before .before .before .before .before .before .pre .1 .0) (c .before .before .before .before .before .before .before .before .pre .1 .1) in sym (t ∙ rw (is-false _ _ (rw (c .before .output2 .ensures, c .before .before .output .ensures, c .before .before .before .wide .ensures) at (c .if1 .taken))) refl)
 
--- src/checker.rt:145:23
 next-requires : tie.Need-next-requires
 next-requires c κs = let a = c .before .before .before .before .before .before .before .before .args in word-in (c .before .before .before .before .before .before .before .before .pre .0) (a .s) (a .a) (c .before .before .before .before .before .before .before .before .pre .1 .0) (c .before .before .before .before .before .before .before .before .pre .1 .1)
 
--- src/checker.rt:145:19
 shared-slice-read-wide-2 : tie.Need-shared-slice-read-wide-2
 shared-slice-read-wide-2 c = let a = c .before .before .before .before .before .before .before .before .before .before .args in rw (c .before .next .ensures) (next-in (c .before .before .before .before .before .before .before .before .before .before .pre .0) (a .s) (a .a) (c .before .before .before .before .before .before .before .before .before .before .pre .1 .0) (c .before .before .before .before .before .before .before .before .before .before .pre .1 .1))
 
--- src/checker.rt:145:5
 wide-requires-2 : tie.Need-wide-requires-2
 wide-requires-2 c κs = search needs
 
--- src/checker.rt:145:58
 next-requires-2 : tie.Need-next-requires-2
 next-requires-2 c κs = let a = c .before .before .before .before .before .before .before .before .before .before .before .args in rw (c .before .before .before .before .before .before .wide .ensures) (model-in (c .before .before .before .before .before .before .before .before .before .before .before .pre .0) (getD (a .map .now) (a .s) 0) (a .a) (c .before .before .before .before .before .before .before .before .before .before .before .pre .1 .2) (c .before .before .before .before .before .before .before .before .before .before .before .pre .1 .1))
 
--- src/checker.rt:136:1
 returns-2 : tie.Need-returns-2
 returns-2 c = let a = c .before .before .before .before .before .before .before .before .before .before .before .before .args in let t = step-is (c .before .before .before .before .before .before .before .before .before .before .before .before .pre .0) (a .s) (a .a) (c .before .before .before .before .before .before .before .before .before .before .before .before .pre .1 .0) (c .before .before .before .before .before .before .before .before .before .before .before .before .pre .1 .1) in rw (c .next2 .ensures, c .before .wide2 .ensures, c .before .before .before .next .ensures, c .before .before .before .before .before .before .before .wide .ensures) (sym (t ∙ rw (is-true _ _ (rw (c .before .before .before .before .before .output2 .ensures, c .before .before .before .before .before .before .output .ensures, c .before .before .before .before .before .before .before .wide .ensures) at (c .before .before .before .before .if1 .left))) refl))
 

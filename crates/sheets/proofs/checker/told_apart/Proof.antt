@@ -1,4 +1,5 @@
-use Rattle.sheets.specs.CheckerSteps.{said, Held, Here, here-part, tells, columns-many, column-here, told-from, some-here, some-later, some-none}
+use Rattle.sheets.specs.Held.{said, Held, Here, here-part, columns-many, column-here}
+use Rattle.sheets.specs.CheckerSteps.{tells, told-from, some-here, some-later, some-none}
 use Rattle.sheets.specs.ProofParts.{columnPlace}
 use Rattle.sheets.specs.Checker.{someWord}
 use Rattle.machine.specs.Lent.{link}
@@ -24,7 +25,6 @@ Inv-loop sheet at c model m k i j place₀ column₀ place column = (column ≤ 
 abbrev μ-loop : tie.MeasureT-loop
 μ-loop sheet at c model m k i j place₀ column₀ place column = c - column
 
--- lemma-begin
 -- the column of this turn, in the sheet
 here : (c : tie.In-loop Inv-loop μ-loop) → let a = c .before .before .before .before .args in let l = c .before .loop in Here (a .sheet .now) (a .k) (getD (said (a .sheet .now) .columns) (l .column) []) (l .place) (columnPlace (said (a .sheet .now)) (l .column + 1))
 here c = let l = c .before .loop in rw (l .inv .1) (column-here (c .before .before .before .before .pre .0) (l .column) (rw (c .before .before .before .before .pre .1 .0 .1) (c .loop-test .taken)))
@@ -40,61 +40,45 @@ word c = here-part (here (c .before .before .before)) (c .before .wide .ensures)
 told : (c : tie.After-column-tells Inv-loop μ-loop) → let a = c .before .before .before .before .before .before .before .before .args in let l = c .before .before .before .before .before .loop in tells (link (a .m) (a .k) (a .model .now)) (a .i) (a .j) (getD (said (a .sheet .now) .columns) (l .column) []) ≡ c .column-tells .result
 told c = let a = c .before .before .before .before .before .before .before .before .args in sym (c .column-tells .ensures ∙ ap (tells (link (a .m) (a .k) (a .model .now)) (a .i) (a .j)) (word (c .before)))
 
--- lemma-end
-
--- src/checker.rt:90:5
 loop-holds : tie.Need-loop-holds Inv-loop μ-loop
 loop-holds c = (search needs, c .before .before .pre .1 .0 .0, refl)
 
--- src/checker.rt:91:20
 add-from : tie.Need-add-from Inv-loop μ-loop
 add-from c = omega (arith, here c .within)
 
--- src/checker.rt:92:46
 add-wide : tie.Need-add-wide Inv-loop μ-loop
 add-wide c = omega (arith, here c .within)
 
--- src/checker.rt:92:40
 shared-slice-read-wide : tie.Need-shared-slice-read-wide Inv-loop μ-loop
 shared-slice-read-wide c = omega (arith, here (c .before) .within)
 
--- src/checker.rt:92:26
 wide-requires : tie.Need-wide-requires Inv-loop μ-loop
 wide-requires c κs = search needs
 
--- src/checker.rt:92:19
 add-end : tie.Need-add-end Inv-loop μ-loop
 add-end c = omega (arith, here (c .before .before) .within, here (c .before .before) .size, c .wide .ensures)
 
--- src/checker.rt:93:44
 sub-column-tells : tie.Need-sub-column-tells Inv-loop μ-loop
 sub-column-tells c = search needs
 
--- src/checker.rt:93:44
 part-column-tells-start : tie.Need-part-column-tells-start Inv-loop μ-loop
 part-column-tells-start c = search needs
 
--- src/checker.rt:93:44
 part-column-tells-end : tie.Need-part-column-tells-end Inv-loop μ-loop
 part-column-tells-end c = omega (arith, here (c .before .before) .within, here (c .before .before) .size, c .wide .ensures)
 
--- src/checker.rt:93:12
 column-tells-requires : tie.Need-column-tells-requires Inv-loop μ-loop
 column-tells-requires c κs = let p = c .before .before .before .before .before .before .before .pre in (p .0 .sound, (p .1 .1 .0, p .1 .1 .1, rw (word c) (here (c .before .before .before) .below)))
 
--- src/checker.rt:94:13
 returns : tie.Need-returns Inv-loop μ-loop
 returns c = let a = c .before .before .before .before .before .before .before .before .before .args in let l = c .before .before .before .before .before .before .loop in let M = link (a .m) (a .k) (a .model .now) in sym (told-from (c .before .before .before .before .before .before .before .before .before .pre .0) M (a .i) (a .j) ∙ l .inv .2 ∙ some-here (tells M (a .i) (a .j)) (said (a .sheet .now) .columns) (l .column) (there (c .before .before .before .before .before)) (told (c .before) ∙ c .if1 .taken))
 
--- src/checker.rt:97:9
 add-column : tie.Need-add-column Inv-loop μ-loop
 add-column c = search needs
 
--- src/checker.rt:90:5
 loop-less : tie.Need-loop-less Inv-loop μ-loop
 loop-less c = search needs
 
--- src/checker.rt:90:5
 loop-again : tie.Need-loop-again Inv-loop μ-loop
 loop-again c = let a = c .before .before .before .before .before .before .before .before .before .args in let l = c .before .before .before .before .before .before .loop in let M = link (a .m) (a .k) (a .model .now) in (
   search needs,
@@ -102,7 +86,6 @@ loop-again c = let a = c .before .before .before .before .before .before .before
   l .inv .2 ∙ some-later (tells M (a .i) (a .j)) (said (a .sheet .now) .columns) (l .column) (there (c .before .before .before .before .before)) (told (c .before) ∙ c .if1 .left),
 )
 
--- src/checker.rt:73:1
 returns-2 : tie.Need-returns-2 Inv-loop μ-loop
 returns-2 c = let a = c .before .before .before .before .args in let l = c .before .loop in let M = link (a .m) (a .k) (a .model .now) in sym (told-from (c .before .before .before .before .pre .0) M (a .i) (a .j) ∙ l .inv .2 ∙ some-none (tells M (a .i) (a .j)) (said (a .sheet .now) .columns) (l .column) (omega (arith, columns-many (c .before .before .before .before .pre .0), c .before .before .before .before .pre .1 .0 .1, c .loop-test .left)))
 
