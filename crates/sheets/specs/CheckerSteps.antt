@@ -1,34 +1,30 @@
 -- The checker step by step, as the code goes through it: its loops, its questions, and their order.
 use mathlib.Core.Path.{_≡_, refl, sym, ap, _∙_, subst}
 use mathlib.Core.Logic.{_⊎_, inl, inr, _≢_}
-use mathlib.Core.Bool.{Bool, true, false, not, _&&_, _||_, true≢false}
-use mathlib.Core.List.{List, [], _∷_, _++_}
+use mathlib.Core.Bool.{Bool, true, false, not, _&&_, _||_}
+use mathlib.Core.List.{List, [], _∷_}
 use Prim.Native.Nat.{ℕ, zero, suc, _+_, _*_, _-_, _/_, _%_, _≤_, _<_}
-use native.Mathlib.Nat.{not-suc-le-zero, le-of-suc-le-suc, mul-le-mul}
+use native.Mathlib.Nat.{not-suc-le-zero, le-of-suc-le-suc}
 use native.Mathlib.Numerals.{add-one}
 use native.Mathlib.Omega.{arith}
-use lib.ListN.{length, getD, take, drop, length-append, length-drop, drop-of-length-le}
-use lib.Seq.{drop-cons, drop-drop, take-at, take-all}
+use lib.ListN.{length, getD, drop, drop-of-length-le}
+use lib.Seq.{drop-cons}
 use lib.Arith.{digits-lt}
 use lib.Dec.{eqb, ltb}
-use Rattle.rules.specs.Tests.{outcome, and-split, or-split, eqb-true, eqb-false, ltb-yes, ltb-no, is-true, is-false, allFrom, all-true, true-all}
-use Rattle.rules.specs.Words.{Word, Below}
+use Rattle.rules.specs.Tests.{outcome, or-split, eqb-true, eqb-false, ltb-yes, ltb-no, is-true, is-false, allFrom, all-true, true-all}
+use Rattle.rules.specs.Words.{Word}
 use Rattle.rules.specs.Search.{walk}
 use Rattle.rules.specs.Machine.{Machine, lent, lastFrom}
-use Rattle.rules.specs.Answer.{Answer, refused, gives, demand, _>>_}
-use Rattle.rules.specs.Areas.{put}
-use Rattle.rules.specs.Sheets.{AW, CW, SM, Proof, wordBytes, wordsBytes}
-use Rattle.machine.specs.Lent.{link, lettersBelow, allPass, Sound}
-use Rattle.machine.specs.LentLaws.{all-at, below-letters}
+use Rattle.rules.specs.Answer.{refused, gives, demand, _>>_}
+use Rattle.rules.specs.Sheets.{Proof}
+use Rattle.machine.specs.Lent.{link, allPass, Sound}
+use Rattle.machine.specs.LentLaws.{all-at}
 use Rattle.sheets.specs.Reading.{Parsed, bad, good}
 use Rattle.sheets.specs.Proofs.{mapByte, proofSheet, Counts, countsOf, readProof}
-use Rattle.sheets.specs.Standing.{rowWords, row-words-length}
-use Rattle.sheets.specs.WordRecords.{Lies, fits-at}
-use Rattle.sheets.specs.ProofParts.{counts, placeOf, recordPlace, reachingPlace, columnPlace, mapPlace}
+use Rattle.sheets.specs.ProofParts.{counts}
 use Rattle.sheets.specs.WordSteps.{clash}
-use Rattle.sheets.specs.ProofSteps.{InRange}
-use Rattle.sheets.specs.Places.{laid, reaching-records, column-records, map-lies, map-ends, read-good}
-use Rattle.sheets.specs.ProofLaws.{read-ends, read-readable, model-sound}
+use Rattle.sheets.specs.Places.{laid, read-good}
+use Rattle.sheets.specs.ProofLaws.{model-sound}
 use Rattle.sheets.specs.Checker.{someWord, modelOf, reachesAll, toldApart, allApart, modelState, stepAgrees, mapHolds, judge, judgeSheet}
 use Rattle.sheets.specs.CheckerLaws.{or-true}
 use Rattle.sheets.specs.Held.{said, said-is, Held, model-is, mapped-states}

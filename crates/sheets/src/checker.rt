@@ -2,20 +2,17 @@
 // writes nothing. The sheet's model is put into words of its own, so that it is read as the machine is; the words and the map are read
 // where they lie.
 ghost use mathlib.Core.Path.{_≡_};
-ghost use mathlib.Core.Bool.{true, _||_};
-ghost use Prim.Native.Nat.{ℕ, _+_, _*_, _<_, _≤_};
-ghost use lib.ListN.{length, getD};
-ghost use lib.Dec.{eqb};
+ghost use mathlib.Core.Bool.{true};
+ghost use Prim.Native.Nat.{_+_, _*_, _<_};
+ghost use lib.ListN.{getD};
 ghost use Rattle.rules.specs.Answer.{gives};
-ghost use Rattle.rules.specs.Machine.{Machine, lent};
-ghost use Rattle.rules.specs.Tests.{allFrom};
 ghost use Rattle.machine.specs.Answers.{checked};
 ghost use Rattle.machine.specs.Lent.{link, lettersBelow, Sound};
 ghost use Rattle.sheets.specs.Proofs.{proofSheet, readProof};
 ghost use Rattle.sheets.specs.ProofParts.{counts};
 ghost use Rattle.sheets.specs.ProofAnswers.{readOf};
 ghost use Rattle.sheets.specs.Checker as checker;
-ghost use Rattle.sheets.specs.Checker.{reachesAll, toldApart, allApart, modelState, stepAgrees, mapHolds};
+ghost use Rattle.sheets.specs.Checker.{reachesAll, toldApart, allApart, stepAgrees, mapHolds};
 ghost use Rattle.sheets.specs.Held.{said, Held, Columns};
 ghost use Rattle.sheets.specs.CheckerSteps.{tells, apartBefore, Mapping, mapped, stateAgrees};
 use crate::machines;

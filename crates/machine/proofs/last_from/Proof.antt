@@ -6,16 +6,11 @@ use Rattle.machine.specs.Lent.{link, Sound}
 use Rattle.machine.specs.LentLaws.{letters-below, last-step, last-ends}
 use borrow.Author.Needs.{needs}
 use native.Mathlib.Omega.{arith}
-use mathlib.Core.Path.{_≡_, refl, sym, ap, _∙_}
-use Prim.Native.Nat.{ℕ, _+_, _*_, _-_, _/_, _%_, _<_, _≤_}
-use lib.ListN.{length, getD, take, drop, set}
+use mathlib.Core.Path.{_≡_, refl, sym, _∙_}
+use Prim.Native.Nat.{_+_, _*_, _-_, _/_, _<_, _≤_}
+use lib.ListN.{length, getD, drop}
 use Rattle.machine.proofs.last_from.Statement.{statement}
 use Rattle.machine.proofs.last_from.Tie as tie
-use Rattle.machine.proofs.last_from.Reads as reads
-use Rattle.machine.proofs.last_from.Lts as lts
-use Rattle.machine.proofs.next_of.Reads as next-of-reads
-use Rattle.machine.proofs.output_of.Reads as output-of-reads
-use Rattle.machine.proofs.wide.Reads as wide-reads
 
 abbrev Inv-loop : tie.InvT-loop
 Inv-loop words n k state w state₀ output₀ at₀ state' output at = (at ≤ length w) × (state' < n) × (lastFrom (link n k words) 0 state w ≡ lastFrom (link n k words) output state' (drop at w))

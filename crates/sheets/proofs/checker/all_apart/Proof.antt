@@ -1,18 +1,13 @@
-use Rattle.sheets.specs.Held.{said, Held}
+use Rattle.sheets.specs.Held.{said}
 use Rattle.sheets.specs.CheckerSteps.{apartBefore, apart-asked, begins, passes, fails, ends}
 use Rattle.machine.specs.Lent.{link}
 use Rattle.rules.specs.Tests.{allFrom}
 use borrow.Author.Tests.{not-true, not-false}
 use borrow.Author.Needs.{needs}
-use native.Mathlib.Omega.{arith}
-use mathlib.Core.Path.{_≡_, refl, sym, ap, _∙_}
-use Prim.Native.Nat.{ℕ, _+_, _*_, _-_, _/_, _%_, _<_, _≤_}
-use lib.ListN.{length, getD, take, drop, set}
+use mathlib.Core.Path.{_≡_, sym, _∙_}
+use Prim.Native.Nat.{_-_, _≤_}
 use Rattle.sheets.proofs.checker.all_apart.Statement.{statement}
 use Rattle.sheets.proofs.checker.all_apart.Tie as tie
-use Rattle.sheets.proofs.checker.all_apart.Reads as reads
-use Rattle.sheets.proofs.checker.all_apart.Lts as lts
-use Rattle.sheets.proofs.checker.apart_from_earlier.Reads as apart-from-earlier-reads
 
 abbrev Inv-loop : tie.InvT-loop
 Inv-loop sheet at c model m k i₀ i = (i ≤ m) × (allFrom (apartBefore (link m k model) (said sheet)) 0 m ≡ allFrom (apartBefore (link m k model) (said sheet)) i (m - i))

@@ -6,14 +6,10 @@ use Rattle.rules.specs.Tests.{allFrom}
 use borrow.Author.Tests.{not-true, not-false}
 use borrow.Author.Needs.{needs}
 use native.Mathlib.Omega.{arith}
-use mathlib.Core.Path.{_≡_, refl, sym, ap, _∙_}
-use Prim.Native.Nat.{ℕ, _+_, _*_, _-_, _/_, _%_, _<_, _≤_}
-use lib.ListN.{length, getD, take, drop, set}
+use mathlib.Core.Path.{_≡_, sym, _∙_}
+use Prim.Native.Nat.{_-_, _≤_}
 use Rattle.sheets.proofs.checker.apart_from_earlier.Statement.{statement}
 use Rattle.sheets.proofs.checker.apart_from_earlier.Tie as tie
-use Rattle.sheets.proofs.checker.apart_from_earlier.Reads as reads
-use Rattle.sheets.proofs.checker.apart_from_earlier.Lts as lts
-use Rattle.sheets.proofs.checker.told_apart.Reads as told-apart-reads
 
 abbrev Inv-loop : tie.InvT-loop
 Inv-loop sheet at c model m k i j₀ j = (j ≤ i) × (apartBefore (link m k model) (said sheet) i ≡ allFrom (toldApart (link m k model) (said sheet) i) j (i - j))

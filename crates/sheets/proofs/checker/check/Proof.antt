@@ -3,18 +3,10 @@ use Rattle.rules.specs.Answer.{gives}
 use Rattle.machine.specs.Answers.{checked}
 use Rattle.machine.specs.Lent.{lentCheck}
 use Rattle.machine.specs.LentLaws.{lent-sound}
-use native.Mathlib.Omega.{arith}
-use mathlib.Core.Path.{_≡_, refl, sym, ap, _∙_}
-use Prim.Native.Nat.{ℕ, _+_, _*_, _-_, _/_, _%_, _<_, _≤_}
-use lib.ListN.{length, getD, take, drop, set}
+use mathlib.Core.Path.{_≡_, sym, ap, _∙_}
 use borrow.Author.Needs.{needs}
 use Rattle.sheets.proofs.checker.check.Statement.{statement}
 use Rattle.sheets.proofs.checker.check.Tie as tie
-use Rattle.sheets.proofs.checker.check.Reads as reads
-use Rattle.sheets.proofs.checker.check.Lts as lts
-use Rattle.machine.proofs.check.Reads as check-reads
-use Rattle.sheets.proofs.checker.judge.Reads as judge-reads
-use Rattle.sheets.proofs.proofs.read.Reads as read-reads
 
 -- the machine came out sound
 sound : (c : tie.After-enum-told) → let a = c .before .before .before .before .before .args in lentCheck (a .n) (a .k) (a .words .now) ≡ gives tt

@@ -1,13 +1,7 @@
 use Rattle.sheets.specs.CheckerSteps.{tells}
-use native.Mathlib.Omega.{arith}
-use mathlib.Core.Path.{_≡_, refl, sym, ap, _∙_}
-use Prim.Native.Nat.{ℕ, _+_, _*_, _-_, _/_, _%_, _<_, _≤_}
-use lib.ListN.{length, getD, take, drop, set}
-use borrow.Author.Needs.{needs}
+use mathlib.Core.Path.{refl}
 use Rattle.sheets.proofs.checker.column_tells.Statement.{statement}
 use Rattle.sheets.proofs.checker.column_tells.Tie as tie
-use Rattle.sheets.proofs.checker.column_tells.Reads as reads
-use Rattle.sheets.proofs.checker.column_tells.Lts as lts
 
 last-from-requires : tie.Need-last-from-requires
 last-from-requires c κs = let p = c .before .before .pre in (p .0, (p .1 .0, p .1 .2))

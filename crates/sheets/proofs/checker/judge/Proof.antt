@@ -1,4 +1,4 @@
-use Rattle.sheets.specs.Held.{Held, held, rows-in}
+use Rattle.sheets.specs.Held.{held, rows-in}
 use Rattle.sheets.specs.CheckerSteps.{judge-refused, judge-other, judge-said}
 use lib.Seq.{length-take-le}
 use Rattle.sheets.specs.ProofAnswers.{readOf}
@@ -9,15 +9,9 @@ use Rattle.rules.specs.Tests.{is-true, is-false}
 use Rattle.rules.specs.Answer.{gives}
 use native.Mathlib.Omega.{arith}
 use mathlib.Core.Path.{_≡_, refl, sym, ap, _∙_}
-use Prim.Native.Nat.{ℕ, _+_, _*_, _-_, _/_, _%_, _<_, _≤_}
-use lib.ListN.{length, getD, take, drop, set}
 use borrow.Author.Needs.{needs}
 use Rattle.sheets.proofs.checker.judge.Statement.{statement}
 use Rattle.sheets.proofs.checker.judge.Tie as tie
-use Rattle.sheets.proofs.checker.judge.Reads as reads
-use Rattle.sheets.proofs.checker.judge.Lts as lts
-use Rattle.sheets.proofs.checker.questions.Reads as questions-reads
-use Rattle.sheets.proofs.machines.set_rows.Reads as set-rows-reads
 
 -- what reading said
 abbrev said : (c : tie.After-known-told2) → Counts

@@ -4,14 +4,10 @@ use Rattle.rules.specs.Tests.{allFrom}
 use borrow.Author.Tests.{not-true, not-false}
 use borrow.Author.Needs.{needs}
 use native.Mathlib.Omega.{arith}
-use mathlib.Core.Path.{_≡_, refl, sym, ap, _∙_}
-use Prim.Native.Nat.{ℕ, _+_, _*_, _-_, _/_, _%_, _<_, _≤_}
-use lib.ListN.{length, getD, take, drop, set}
+use mathlib.Core.Path.{_≡_, sym, _∙_}
+use Prim.Native.Nat.{_-_, _≤_}
 use Rattle.sheets.proofs.checker.map_holds.Statement.{statement}
 use Rattle.sheets.proofs.checker.map_holds.Tie as tie
-use Rattle.sheets.proofs.checker.map_holds.Reads as reads
-use Rattle.sheets.proofs.checker.map_holds.Lts as lts
-use Rattle.sheets.proofs.checker.state_agrees.Reads as state-agrees-reads
 
 abbrev Inv-loop : tie.InvT-loop
 Inv-loop words n k model m map s₀ s = (s ≤ n) × (allFrom (stateAgrees (link n k words) (mapped n k m model map)) 0 n ≡ allFrom (stateAgrees (link n k words) (mapped n k m model map)) s (n - s))

@@ -1,24 +1,14 @@
 use Rattle.sheets.specs.Held.{said, columns-at, map-is}
-use Rattle.sheets.specs.CheckerSteps.{Mapping, mapped, reaches-alone, apart-alone, mapping, map-same, judge-same}
+use Rattle.sheets.specs.CheckerSteps.{mapped, reaches-alone, apart-alone, mapping, map-same, judge-same}
 use Rattle.sheets.specs.Checker.{reachesAll, allApart, mapHolds}
 use Rattle.machine.specs.Lent.{link}
-use Rattle.rules.specs.Machine.{Machine}
-use mathlib.Core.Bool.{true, false}
 use mathlib.Core.List.{List}
 use borrow.Author.Tests.{not-true, not-false}
-use native.Mathlib.Omega.{arith}
 use mathlib.Core.Path.{_≡_, refl, sym, ap, _∙_}
-use Prim.Native.Nat.{ℕ, _+_, _*_, _-_, _/_, _%_, _<_, _≤_}
-use lib.ListN.{length, getD, take, drop, set}
+use Prim.Native.Nat.{ℕ}
 use borrow.Author.Needs.{needs}
 use Rattle.sheets.proofs.checker.questions.Statement.{statement}
 use Rattle.sheets.proofs.checker.questions.Tie as tie
-use Rattle.sheets.proofs.checker.questions.Reads as reads
-use Rattle.sheets.proofs.checker.questions.Lts as lts
-use Rattle.sheets.proofs.checker.all_apart.Reads as all-apart-reads
-use Rattle.sheets.proofs.checker.map_holds.Reads as map-holds-reads
-use Rattle.sheets.proofs.checker.reaches_all.Reads as reaches-all-reads
-use Rattle.sheets.proofs.proofs.record_place.Reads as record-place-reads
 
 -- 12 came out as it does for the machine
 reached : (c : tie.After-reaches-all) → let a = c .before .before .before .before .args in reachesAll (link (a .n) (a .k) (a .words .now)) (said (a .sheet .now)) ≡ c .reaches-all .result

@@ -1,23 +1,18 @@
-use Rattle.sheets.specs.Held.{said, Held, Here, here-part, reaching-start, reaching-within, reaching-here}
+use Rattle.sheets.specs.Held.{said, Here, here-part, reaching-start, reaching-within, reaching-here}
 use Rattle.sheets.specs.CheckerSteps.{reached, reaches-from, begins, passes, fails, ends}
 use Rattle.sheets.specs.ProofParts.{reachingPlace}
 use Rattle.machine.specs.LentLaws.{sound-steps}
 use Rattle.machine.specs.Lent.{link}
 use Rattle.rules.specs.Search.{walk}
-use Rattle.rules.specs.Machine.{Machine}
 use Rattle.rules.specs.Tests.{allFrom, is-true, is-false}
 use mathlib.Core.List.{[]}
 use borrow.Author.Needs.{needs}
 use native.Mathlib.Omega.{arith}
-use mathlib.Core.Path.{_≡_, refl, sym, ap, _∙_}
-use Prim.Native.Nat.{ℕ, _+_, _*_, _-_, _/_, _%_, _<_, _≤_}
-use lib.ListN.{length, getD, take, drop, set}
+use mathlib.Core.Path.{_≡_, sym, ap, _∙_}
+use Prim.Native.Nat.{_+_, _-_, _≤_}
+use lib.ListN.{getD, take, drop}
 use Rattle.sheets.proofs.checker.reaches_all.Statement.{statement}
 use Rattle.sheets.proofs.checker.reaches_all.Tie as tie
-use Rattle.sheets.proofs.checker.reaches_all.Reads as reads
-use Rattle.sheets.proofs.checker.reaches_all.Lts as lts
-use Rattle.machine.proofs.state_after.Reads as state-after-reads
-use Rattle.machine.proofs.wide.Reads as wide-reads
 
 abbrev Inv-loop : tie.InvT-loop
 Inv-loop sheet model m k place₀ state₀ place state = (state ≤ m) × (place ≡ reachingPlace (said sheet) state) × (allFrom (reached (link m k model) (said sheet)) 0 m ≡ allFrom (reached (link m k model) (said sheet)) state (m - state))

@@ -1,18 +1,14 @@
 use Rattle.sheets.specs.CheckerSteps.{mapped, has-state, agrees-none, agrees-from, begins, passes, fails, ends}
 use Rattle.sheets.specs.Checker.{stepAgrees}
 use Rattle.machine.specs.Lent.{link}
-use Rattle.rules.specs.Tests.{allFrom, is-true, is-false}
+use Rattle.rules.specs.Tests.{allFrom}
 use borrow.Author.Tests.{not-true, not-false}
 use borrow.Author.Needs.{needs}
 use native.Mathlib.Omega.{arith}
-use mathlib.Core.Path.{_≡_, refl, sym, ap, _∙_}
-use Prim.Native.Nat.{ℕ, _+_, _*_, _-_, _/_, _%_, _<_, _≤_}
-use lib.ListN.{length, getD, take, drop, set}
+use mathlib.Core.Path.{_≡_, sym, _∙_}
+use Prim.Native.Nat.{_-_, _≤_}
 use Rattle.sheets.proofs.checker.state_agrees.Statement.{statement}
 use Rattle.sheets.proofs.checker.state_agrees.Tie as tie
-use Rattle.sheets.proofs.checker.state_agrees.Reads as reads
-use Rattle.sheets.proofs.checker.state_agrees.Lts as lts
-use Rattle.sheets.proofs.checker.step_agrees.Reads as step-agrees-reads
 
 abbrev Inv-loop : tie.InvT-loop
 Inv-loop words n k model m map s a₀ a = (a ≤ k) × (allFrom (stepAgrees (link n k words) (mapped n k m model map) s) 0 k ≡ allFrom (stepAgrees (link n k words) (mapped n k m model map) s) a (k - a))

@@ -1,17 +1,11 @@
 use Rattle.sheets.specs.CheckerSteps.{word-in, model-in, next-in, step-is}
 use Rattle.rules.specs.Tests.{is-true, is-false}
 use native.Mathlib.Omega.{arith}
-use mathlib.Core.Path.{_≡_, refl, sym, ap, _∙_}
-use Prim.Native.Nat.{ℕ, _+_, _*_, _-_, _/_, _%_, _<_, _≤_}
-use lib.ListN.{length, getD, take, drop, set}
+use mathlib.Core.Path.{refl, sym, _∙_}
+use lib.ListN.{getD}
 use borrow.Author.Needs.{needs}
 use Rattle.sheets.proofs.checker.step_agrees.Statement.{statement}
 use Rattle.sheets.proofs.checker.step_agrees.Tie as tie
-use Rattle.sheets.proofs.checker.step_agrees.Reads as reads
-use Rattle.sheets.proofs.checker.step_agrees.Lts as lts
-use Rattle.machine.proofs.next.Reads as next-reads
-use Rattle.machine.proofs.output.Reads as output-reads
-use Rattle.machine.proofs.wide.Reads as wide-reads
 
 shared-slice-read-wide : tie.Need-shared-slice-read-wide
 shared-slice-read-wide c = let a = c .before .before .before .before .args in omega (arith, c .before .before .before .before .pre .0 .long, c .before .before .before .before .pre .1 .0)

@@ -1,23 +1,16 @@
-use Rattle.sheets.specs.Held.{said, Held, Here, here-part, columns-many, column-here}
+use Rattle.sheets.specs.Held.{said, Here, here-part, columns-many, column-here}
 use Rattle.sheets.specs.CheckerSteps.{tells, told-from, some-here, some-later, some-none}
 use Rattle.sheets.specs.ProofParts.{columnPlace}
 use Rattle.sheets.specs.Checker.{someWord}
 use Rattle.machine.specs.Lent.{link}
-use Rattle.rules.specs.Words.{Word}
-use mathlib.Core.Bool.{Bool}
-use mathlib.Core.Path.{subst}
 use mathlib.Core.List.{[]}
 use borrow.Author.Needs.{needs}
 use native.Mathlib.Omega.{arith}
 use mathlib.Core.Path.{_≡_, refl, sym, ap, _∙_}
-use Prim.Native.Nat.{ℕ, _+_, _*_, _-_, _/_, _%_, _<_, _≤_}
-use lib.ListN.{length, getD, take, drop, set}
+use Prim.Native.Nat.{_+_, _-_, _<_, _≤_}
+use lib.ListN.{length, getD, take, drop}
 use Rattle.sheets.proofs.checker.told_apart.Statement.{statement}
 use Rattle.sheets.proofs.checker.told_apart.Tie as tie
-use Rattle.sheets.proofs.checker.told_apart.Reads as reads
-use Rattle.sheets.proofs.checker.told_apart.Lts as lts
-use Rattle.machine.proofs.wide.Reads as wide-reads
-use Rattle.sheets.proofs.checker.column_tells.Reads as column-tells-reads
 
 abbrev Inv-loop : tie.InvT-loop
 Inv-loop sheet at c model m k i j place₀ column₀ place column = (column ≤ c) × (place ≡ columnPlace (said sheet) column) × (someWord (tells (link m k model) i j) (said sheet .columns) ≡ someWord (tells (link m k model) i j) (drop column (said sheet .columns)))
