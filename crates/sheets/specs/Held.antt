@@ -55,8 +55,7 @@ module _ (sheet : List ℕ) (h : Counts) (e : readProof sheet ≡ gives h) where
   rows-in =
       let g = read-good sheet h e in
       let l = laid sheet (g .0) (g .1) (g .2) in
-      let r : InRange h = subst InRange (sym (l .said) ∙ g .3) (l .head .ranges) in
-      (
+      let r : InRange h = subst InRange (sym (l .said) ∙ g .3) (l .head .ranges) in (
         omega (arith, mul-le-mul {n₁ = h .m} {m₁ = h .k} {n₂ = 48} {m₂ = 12} (r .m-high) (r .k-high)),
         subst (λ (h : Counts). 6 + h .m * (2 + 2 * h .k) ≤ length sheet) (g .3) (l .start),
       )
@@ -176,9 +175,8 @@ module _ {sheet model : List ℕ} {m k n c : ℕ} (H : Held sheet model m k) (e 
       let P : Proof = said sheet in
       let end = map-ends sheet P [] (H .read) in
       let at : length sheet - n ≡ mapPlace P + 2 = omega (arith, mapped-states) in
-      let rest : List ℕ = drop (length sheet - n) sheet in
-      (
+      let rest : List ℕ = drop (length sheet - n) sheet in (
         omega (arith, mapped-states),
         take-all (length sheet - (length sheet - n)) rest (omega (arith, length-drop (length sheet - n) sheet))
-        ∙ ap (λ (i : ℕ). drop i sheet) at ∙ sym (drop-drop 2 (mapPlace P) sheet) ∙ ap (drop 2) (map-lies sheet P [] (H .read)),
+            ∙ ap (λ (i : ℕ). drop i sheet) at ∙ sym (drop-drop 2 (mapPlace P) sheet) ∙ ap (drop 2) (map-lies sheet P [] (H .read)),
       )

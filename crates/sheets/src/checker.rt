@@ -3,7 +3,7 @@
 // where they lie.
 ghost use mathlib.Core.Path.{_≡_};
 ghost use mathlib.Core.Bool.{true};
-ghost use Prim.Native.Nat.{_+_, _*_, _<_};
+ghost use Prim.Native.Nat.{_<_};
 ghost use lib.ListN.{getD};
 ghost use Rattle.rules.specs.Answer.{gives};
 ghost use Rattle.machine.specs.Answers.{checked};
@@ -80,7 +80,15 @@ fn told_apart(
 }
 
 // Whether the state `i` and each state before it are told apart.
-fn apart_from_earlier(sheet: &[u8], at: usize, c: usize, model: &[u16], m: usize, k: usize, i: usize) -> bool
+fn apart_from_earlier(
+    sheet: &[u8],
+    at: usize,
+    c: usize,
+    model: &[u16],
+    m: usize,
+    k: usize,
+    i: usize,
+) -> bool
     requires { ⌜ Held (now sheet) (now model) m k ⌝ }
     requires { ⌜ Columns (now sheet) at c ⌝ }
     requires { ⌜ i < m ⌝ }
@@ -113,7 +121,16 @@ fn all_apart(sheet: &[u8], at: usize, c: usize, model: &[u16], m: usize, k: usiz
 }
 
 // At a machine state that has a model state, and at a letter: the outputs agree, and the next state's model state is the model's next.
-fn step_agrees(words: &[u16], n: usize, k: usize, model: &[u16], m: usize, map: &[u8], s: usize, a: usize) -> bool
+fn step_agrees(
+    words: &[u16],
+    n: usize,
+    k: usize,
+    model: &[u16],
+    m: usize,
+    map: &[u8],
+    s: usize,
+    a: usize,
+) -> bool
     requires { ⌜ Mapping n k (now words) m (now model) (now map) ⌝ }
     requires { ⌜ (s < n) × (a < k) × (getD (now map) s 0 < m) ⌝ }
     ensures { λ r. ⌜ r ≡ stepAgrees (link n k (now (words .entry))) (mapped n k m (now (model .entry)) (now (map .entry))) s a ⌝ }
@@ -126,7 +143,15 @@ fn step_agrees(words: &[u16], n: usize, k: usize, model: &[u16], m: usize, map: 
 }
 
 // At each letter, if the machine state has a model state. A state marked 255 is asked nothing itself.
-fn state_agrees(words: &[u16], n: usize, k: usize, model: &[u16], m: usize, map: &[u8], s: usize) -> bool
+fn state_agrees(
+    words: &[u16],
+    n: usize,
+    k: usize,
+    model: &[u16],
+    m: usize,
+    map: &[u8],
+    s: usize,
+) -> bool
     requires { ⌜ Mapping n k (now words) m (now model) (now map) ⌝ }
     requires { ⌜ s < n ⌝ }
     ensures { λ r. ⌜ r ≡ stateAgrees (link n k (now (words .entry))) (mapped n k m (now (model .entry)) (now (map .entry))) s ⌝ }
@@ -163,7 +188,15 @@ fn map_holds(words: &[u16], n: usize, k: usize, model: &[u16], m: usize, map: &[
 }
 
 // 12 to 14, in order, of a sheet whose n and k are the machine's.
-fn questions(words: &[u16], n: usize, k: usize, sheet: &[u8], model: &[u16], m: usize, c: usize) -> Checked
+fn questions(
+    words: &[u16],
+    n: usize,
+    k: usize,
+    sheet: &[u8],
+    model: &[u16],
+    m: usize,
+    c: usize,
+) -> Checked
     requires { ⌜ Sound n k (now words) ⌝ }
     requires { ⌜ Held (now sheet) (now model) m k ⌝ }
     requires { ⌜ readProof (now sheet) ≡ gives (counts m k n c) ⌝ }
@@ -192,7 +225,12 @@ fn judge(words: &[u16], n: usize, k: usize, sheet: &[u8], p: ProofRead) -> Check
 {
     match p {
         ProofRead::Refused(r) => Checked::Refused(r),
-        ProofRead::Read { m, k: letters, n: states, c } => {
+        ProofRead::Read {
+            m,
+            k: letters,
+            n: states,
+            c,
+        } => {
             if states != n {
                 return Checked::Refused(Refusal::OtherSize);
             }

@@ -16,13 +16,14 @@ abbrev μ-loop : tie.MeasureT-loop
 μ-loop sheet at c model m k i₀ i = m - i
 
 loop-holds : tie.Need-loop-holds Inv-loop μ-loop
-loop-holds c = let a = c .before .before .args in (search needs, begins (apartBefore (link (a .m) (a .k) (a .model .now)) (said (a .sheet .now))) (a .m))
+loop-holds c = (search needs, begins _ _)
 
 apart-from-earlier-requires : tie.Need-apart-from-earlier-requires Inv-loop μ-loop
 apart-from-earlier-requires c κs = let p = c .before .before .before .before .pre in (p .0, (p .1, c .loop-test .taken))
 
 returns : tie.Need-returns Inv-loop μ-loop
-returns c = let a = c .before .before .before .before .before .before .args in let l = c .before .before .before .loop in let M = link (a .m) (a .k) (a .model .now) in sym (apart-asked (c .before .before .before .before .before .before .pre .0) M ∙ l .inv .1 ∙ fails (apartBefore M (said (a .sheet .now))) (a .m) (l .i) (c .before .before .loop-test .taken) (sym (c .before .apart-from-earlier .ensures) ∙ not-true (c .before .apart-from-earlier .result) (c .if1 .taken)))
+returns c = sym (apart-asked (c .before .before .before .before .before .before .pre .0) _ ∙ c .before .before .before .loop .inv .1
+    ∙ fails _ _ _ (c .before .before .loop-test .taken) (sym (c .before .apart-from-earlier .ensures) ∙ not-true (c .before .apart-from-earlier .result) (c .if1 .taken)))
 
 add-i : tie.Need-add-i Inv-loop μ-loop
 add-i c = search needs
@@ -31,10 +32,13 @@ loop-less : tie.Need-loop-less Inv-loop μ-loop
 loop-less c = search needs
 
 loop-again : tie.Need-loop-again Inv-loop μ-loop
-loop-again c = let a = c .before .before .before .before .before .before .args in let l = c .before .before .before .loop in (search needs, l .inv .1 ∙ passes (apartBefore (link (a .m) (a .k) (a .model .now)) (said (a .sheet .now))) (a .m) (l .i) (c .before .before .loop-test .taken) (sym (c .before .apart-from-earlier .ensures) ∙ not-false (c .before .apart-from-earlier .result) (c .if1 .left)))
+loop-again c = (
+  search needs,
+  c .before .before .before .loop .inv .1 ∙ passes _ _ _ (c .before .before .loop-test .taken) (sym (c .before .apart-from-earlier .ensures) ∙ not-false (c .before .apart-from-earlier .result) (c .if1 .left)),
+)
 
 returns-2 : tie.Need-returns-2 Inv-loop μ-loop
-returns-2 c = let a = c .before .before .before .before .args in let l = c .before .loop in let M = link (a .m) (a .k) (a .model .now) in sym (apart-asked (c .before .before .before .before .pre .0) M ∙ l .inv .1 ∙ ends (apartBefore M (said (a .sheet .now))) (a .m) (l .i) (c .loop-test .left))
+returns-2 c = sym (apart-asked (c .before .before .before .before .pre .0) _ ∙ c .before .loop .inv .1 ∙ ends _ _ _ (c .loop-test .left))
 
 pub all-apart-spec : {M : Type 1} → statement M
 all-apart-spec =

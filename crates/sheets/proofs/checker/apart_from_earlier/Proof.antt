@@ -25,7 +25,8 @@ told-apart-requires : tie.Need-told-apart-requires Inv-loop μ-loop
 told-apart-requires c κs = let p = c .before .before .before .before .pre in (p .0, (p .1 .0, (p .1 .1, omega (arith, p .1 .1, c .loop-test .taken))))
 
 returns : tie.Need-returns Inv-loop μ-loop
-returns c = let a = c .before .before .before .before .before .before .args in let l = c .before .before .before .loop in sym (l .inv .1 ∙ fails (toldApart (link (a .m) (a .k) (a .model .now)) (said (a .sheet .now)) (a .i)) (a .i) (l .j) (c .before .before .loop-test .taken) (sym (c .before .told-apart .ensures) ∙ not-true (c .before .told-apart .result) (c .if1 .taken)))
+returns c = sym (c .before .before .before .loop .inv .1
+    ∙ fails _ _ _ (c .before .before .loop-test .taken) (sym (c .before .told-apart .ensures) ∙ not-true (c .before .told-apart .result) (c .if1 .taken)))
 
 add-j : tie.Need-add-j Inv-loop μ-loop
 add-j c = search needs
@@ -34,10 +35,13 @@ loop-less : tie.Need-loop-less Inv-loop μ-loop
 loop-less c = search needs
 
 loop-again : tie.Need-loop-again Inv-loop μ-loop
-loop-again c = let a = c .before .before .before .before .before .before .args in let l = c .before .before .before .loop in (search needs, l .inv .1 ∙ passes (toldApart (link (a .m) (a .k) (a .model .now)) (said (a .sheet .now)) (a .i)) (a .i) (l .j) (c .before .before .loop-test .taken) (sym (c .before .told-apart .ensures) ∙ not-false (c .before .told-apart .result) (c .if1 .left)))
+loop-again c = (
+  search needs,
+  c .before .before .before .loop .inv .1 ∙ passes _ _ _ (c .before .before .loop-test .taken) (sym (c .before .told-apart .ensures) ∙ not-false (c .before .told-apart .result) (c .if1 .left)),
+)
 
 returns-2 : tie.Need-returns-2 Inv-loop μ-loop
-returns-2 c = let a = c .before .before .before .before .args in let l = c .before .loop in sym (l .inv .1 ∙ ends (toldApart (link (a .m) (a .k) (a .model .now)) (said (a .sheet .now)) (a .i)) (a .i) (l .j) (c .loop-test .left))
+returns-2 c = sym (c .before .loop .inv .1 ∙ ends _ _ _ (c .loop-test .left))
 
 pub apart-from-earlier-spec : {M : Type 1} → statement M
 apart-from-earlier-spec =

@@ -22,13 +22,14 @@ returns : tie.Need-returns Inv-loop μ-loop
 returns c = sym (holds-not (c .before .before .before .before .before .pre) (c .if1 .taken))
 
 loop-holds : tie.Need-loop-holds Inv-loop μ-loop
-loop-holds c = let a = c .before .before .before .before .before .args in (search needs, begins (stateAgrees (link (a .n) (a .k) (a .words .now)) (mapped (a .n) (a .k) (a .m) (a .model .now) (a .map .now))) (a .n))
+loop-holds c = (search needs, begins _ _)
 
 state-agrees-requires : tie.Need-state-agrees-requires Inv-loop μ-loop
 state-agrees-requires c κs = (c .before .before .before .before .before .before .before .pre, c .loop-test .taken)
 
 returns-2 : tie.Need-returns-2 Inv-loop μ-loop
-returns-2 c = let a = c .before .before .before .before .before .before .before .before .before .args in let l = c .before .before .before .loop in sym (holds-from (c .before .before .before .before .before .before .before .before .before .pre) (c .before .before .before .before .if1 .left) ∙ l .inv .1 ∙ fails (stateAgrees (link (a .n) (a .k) (a .words .now)) (mapped (a .n) (a .k) (a .m) (a .model .now) (a .map .now))) (a .n) (l .s) (c .before .before .loop-test .taken) (sym (c .before .state-agrees .ensures) ∙ not-true (c .before .state-agrees .result) (c .if2 .taken)))
+returns-2 c = sym (holds-from (c .before .before .before .before .before .before .before .before .before .pre) (c .before .before .before .before .if1 .left) ∙ c .before .before .before .loop .inv .1
+    ∙ fails _ _ _ (c .before .before .loop-test .taken) (sym (c .before .state-agrees .ensures) ∙ not-true (c .before .state-agrees .result) (c .if2 .taken)))
 
 add-s : tie.Need-add-s Inv-loop μ-loop
 add-s c = search needs
@@ -37,10 +38,13 @@ loop-less : tie.Need-loop-less Inv-loop μ-loop
 loop-less c = search needs
 
 loop-again : tie.Need-loop-again Inv-loop μ-loop
-loop-again c = let a = c .before .before .before .before .before .before .before .before .before .args in let l = c .before .before .before .loop in (search needs, l .inv .1 ∙ passes (stateAgrees (link (a .n) (a .k) (a .words .now)) (mapped (a .n) (a .k) (a .m) (a .model .now) (a .map .now))) (a .n) (l .s) (c .before .before .loop-test .taken) (sym (c .before .state-agrees .ensures) ∙ not-false (c .before .state-agrees .result) (c .if2 .left)))
+loop-again c = (
+  search needs,
+  c .before .before .before .loop .inv .1 ∙ passes _ _ _ (c .before .before .loop-test .taken) (sym (c .before .state-agrees .ensures) ∙ not-false (c .before .state-agrees .result) (c .if2 .left)),
+)
 
 returns-3 : tie.Need-returns-3 Inv-loop μ-loop
-returns-3 c = let a = c .before .before .before .before .before .before .before .args in let l = c .before .loop in sym (holds-from (c .before .before .before .before .before .before .before .pre) (c .before .before .if1 .left) ∙ l .inv .1 ∙ ends (stateAgrees (link (a .n) (a .k) (a .words .now)) (mapped (a .n) (a .k) (a .m) (a .model .now) (a .map .now))) (a .n) (l .s) (c .loop-test .left))
+returns-3 c = sym (holds-from (c .before .before .before .before .before .before .before .pre) (c .before .before .if1 .left) ∙ c .before .loop .inv .1 ∙ ends _ _ _ (c .loop-test .left))
 
 pub map-holds-spec : {M : Type 1} → statement M
 map-holds-spec =

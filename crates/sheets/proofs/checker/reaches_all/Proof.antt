@@ -28,6 +28,11 @@ here c = let l = c .before .loop in rw (l .inv .1) (reaching-here (c .before .be
 word : (c : tie.After-state-after-arg Inv-loop μ-loop) → let a = c .before .before .before .before .before .before .before .args in let l = c .before .before .before .before .loop in take (l .place + 3 + c .before .wide .result - (l .place + 3)) (drop (l .place + 3) (a .sheet .now)) ≡ getD (said (a .sheet .now) .reaching) (l .state) []
 word c = here-part (here (c .before .before .before)) (c .before .wide .ensures)
 
+-- so it is followed to its end
+led : (c : tie.After-state-after Inv-loop μ-loop) → let a = c .before .before .before .before .before .before .before .before .args in
+    c .state-after .result ≡ walk (link (a .m) (a .k) (a .model .now) .next) 0 (getD (said (a .sheet .now) .reaching) (c .before .before .before .before .before .loop .state) [])
+led c = let a = c .before .before .before .before .before .before .before .before .args in c .state-after .ensures ∙ ap (walk (link (a .m) (a .k) (a .model .now) .next) 0) (word (c .before))
+
 mul-place : tie.Need-mul-place Inv-loop μ-loop
 mul-place c = let h = reaching-within (c .before .before .pre) in search needs
 
@@ -41,7 +46,7 @@ add-place-2 : tie.Need-add-place-2 Inv-loop μ-loop
 add-place-2 c = let h = reaching-within (c .before .before .pre) in omega arith
 
 loop-holds : tie.Need-loop-holds Inv-loop μ-loop
-loop-holds c = let a = c .before .before .args in (search needs, reaching-start (c .before .before .pre), begins (reached (link (a .m) (a .k) (a .model .now)) (said (a .sheet .now))) (a .m))
+loop-holds c = (search needs, reaching-start (c .before .before .pre), begins _ _)
 
 add-from : tie.Need-add-from Inv-loop μ-loop
 add-from c = omega (arith, here c .within)
@@ -71,7 +76,7 @@ state-after-requires : tie.Need-state-after-requires Inv-loop μ-loop
 state-after-requires c κs = (sound-steps (c .before .before .before .before .before .before .before .pre .sound), rw (word c) (here (c .before .before .before) .below))
 
 returns : tie.Need-returns Inv-loop μ-loop
-returns c = let a = c .before .before .before .before .before .before .before .before .before .args in let l = c .before .before .before .before .before .before .loop in let e = c .before .state-after .ensures ∙ ap (walk (link (a .m) (a .k) (a .model .now) .next) 0) (word (c .before .before)) in sym (reaches-from (c .before .before .before .before .before .before .before .before .before .pre) (link (a .m) (a .k) (a .model .now)) ∙ l .inv .2 ∙ fails (reached (link (a .m) (a .k) (a .model .now)) (said (a .sheet .now))) (a .m) (l .state) (c .before .before .before .before .before .loop-test .taken) (is-false _ _ (λ q. c .if1 .taken (e ∙ q))))
+returns c = sym (reaches-from (c .before .before .before .before .before .before .before .before .before .pre) _ ∙ c .before .before .before .before .before .before .loop .inv .2 ∙ fails _ _ _ (c .before .before .before .before .before .loop-test .taken) (is-false _ _ (λ q. c .if1 .taken (led (c .before) ∙ q))))
 
 add-state : tie.Need-add-state Inv-loop μ-loop
 add-state c = search needs
@@ -80,14 +85,14 @@ loop-less : tie.Need-loop-less Inv-loop μ-loop
 loop-less c = search needs
 
 loop-again : tie.Need-loop-again Inv-loop μ-loop
-loop-again c = let a = c .before .before .before .before .before .before .before .before .before .args in let l = c .before .before .before .before .before .before .loop in let e = c .before .state-after .ensures ∙ ap (walk (link (a .m) (a .k) (a .model .now) .next) 0) (word (c .before .before)) in (
+loop-again c = (
   search needs,
   omega (arith, here (c .before .before .before .before .before) .after, here (c .before .before .before .before .before) .size, c .before .before .before .wide .ensures),
-  l .inv .2 ∙ passes (reached (link (a .m) (a .k) (a .model .now)) (said (a .sheet .now))) (a .m) (l .state) (c .before .before .before .before .before .loop-test .taken) (is-true _ _ (sym e ∙ c .if1 .left)),
+  c .before .before .before .before .before .before .loop .inv .2 ∙ passes _ _ _ (c .before .before .before .before .before .loop-test .taken) (is-true _ _ (sym (led (c .before)) ∙ c .if1 .left)),
 )
 
 returns-2 : tie.Need-returns-2 Inv-loop μ-loop
-returns-2 c = let a = c .before .before .before .before .args in let l = c .before .loop in sym (reaches-from (c .before .before .before .before .pre) (link (a .m) (a .k) (a .model .now)) ∙ l .inv .2 ∙ ends (reached (link (a .m) (a .k) (a .model .now)) (said (a .sheet .now))) (a .m) (l .state) (c .loop-test .left))
+returns-2 c = sym (reaches-from (c .before .before .before .before .pre) _ ∙ c .before .loop .inv .2 ∙ ends _ _ _ (c .loop-test .left))
 
 pub reaches-all-spec : {M : Type 1} → statement M
 reaches-all-spec =

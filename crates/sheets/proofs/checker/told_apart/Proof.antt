@@ -64,7 +64,7 @@ column-tells-requires : tie.Need-column-tells-requires Inv-loop μ-loop
 column-tells-requires c κs = let p = c .before .before .before .before .before .before .before .pre in (p .0 .sound, (p .1 .1 .0, p .1 .1 .1, rw (word c) (here (c .before .before .before) .below)))
 
 returns : tie.Need-returns Inv-loop μ-loop
-returns c = let a = c .before .before .before .before .before .before .before .before .before .args in let l = c .before .before .before .before .before .before .loop in let M = link (a .m) (a .k) (a .model .now) in sym (told-from (c .before .before .before .before .before .before .before .before .before .pre .0) M (a .i) (a .j) ∙ l .inv .2 ∙ some-here (tells M (a .i) (a .j)) (said (a .sheet .now) .columns) (l .column) (there (c .before .before .before .before .before)) (told (c .before) ∙ c .if1 .taken))
+returns c = sym (told-from (c .before .before .before .before .before .before .before .before .before .pre .0) _ _ _ ∙ c .before .before .before .before .before .before .loop .inv .2 ∙ some-here _ _ _ (there (c .before .before .before .before .before)) (told (c .before) ∙ c .if1 .taken))
 
 add-column : tie.Need-add-column Inv-loop μ-loop
 add-column c = search needs
@@ -73,14 +73,16 @@ loop-less : tie.Need-loop-less Inv-loop μ-loop
 loop-less c = search needs
 
 loop-again : tie.Need-loop-again Inv-loop μ-loop
-loop-again c = let a = c .before .before .before .before .before .before .before .before .before .args in let l = c .before .before .before .before .before .before .loop in let M = link (a .m) (a .k) (a .model .now) in (
+loop-again c = (
   search needs,
   omega (arith, here (c .before .before .before .before .before) .after, here (c .before .before .before .before .before) .size, c .before .before .before .wide .ensures),
-  l .inv .2 ∙ some-later (tells M (a .i) (a .j)) (said (a .sheet .now) .columns) (l .column) (there (c .before .before .before .before .before)) (told (c .before) ∙ c .if1 .left),
+  c .before .before .before .before .before .before .loop .inv .2 ∙ some-later _ _ _ (there (c .before .before .before .before .before)) (told (c .before) ∙ c .if1 .left),
 )
 
 returns-2 : tie.Need-returns-2 Inv-loop μ-loop
-returns-2 c = let a = c .before .before .before .before .args in let l = c .before .loop in let M = link (a .m) (a .k) (a .model .now) in sym (told-from (c .before .before .before .before .pre .0) M (a .i) (a .j) ∙ l .inv .2 ∙ some-none (tells M (a .i) (a .j)) (said (a .sheet .now) .columns) (l .column) (omega (arith, columns-many (c .before .before .before .before .pre .0), c .before .before .before .before .pre .1 .0 .1, c .loop-test .left)))
+returns-2 c = let p = c .before .before .before .before .pre in
+    let l = c .before .loop in
+    sym (told-from (p .0) _ _ _ ∙ l .inv .2 ∙ some-none _ (said (c .before .before .before .before .args .sheet .now) .columns) (l .column) (omega (arith, columns-many (p .0), p .1 .0 .1)))
 
 pub told-apart-spec : {M : Type 1} → statement M
 told-apart-spec =
