@@ -29,7 +29,7 @@ read-requires : tie.Need-read-requires
 read-requires c κs = search needs
 
 judge-requires : tie.Need-judge-requires
-judge-requires c κs = let a = c .before .before .before .before .before .before .args in (lent-sound (a .n) (a .k) (a .words .now) (sound (c .before)), c .read .ensures)
+judge-requires c κs = (lent-sound _ _ _ (sound (c .before)), c .read .ensures)
 
 returns-2 : tie.Need-returns-2
 unfolding checker.check

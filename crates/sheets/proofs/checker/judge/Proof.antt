@@ -4,7 +4,6 @@ use lib.Seq.{length-take-le}
 use Rattle.sheets.specs.ProofAnswers.{readOf}
 use Rattle.sheets.specs.ProofParts.{counts}
 use Rattle.sheets.specs.Proofs.{Counts, readProof}
-use Rattle.machine.specs.Lent.{link}
 use Rattle.rules.specs.Tests.{is-true, is-false}
 use Rattle.rules.specs.Answer.{gives}
 use native.Mathlib.Omega.{arith}
@@ -15,13 +14,14 @@ use Rattle.sheets.proofs.checker.judge.Tie as tie
 
 -- what reading said
 abbrev said : (c : tie.After-known-told2) → Counts
-said c = counts (c .before .p2 .given .0 .0) (c .before .p2 .given .0 .1 .0) (c .before .p2 .given .0 .1 .1 .0) (c .before .p2 .given .0 .1 .1 .1 .0)
+said c = let h = c .before .p2 .given .0 in counts (h .0) (h .1 .0) (h .1 .1 .0) (h .1 .1 .1 .0)
 
 was-read : (c : tie.After-known-told2) → readProof (c .before .before .before .before .before .args .sheet .now) ≡ gives (said c)
 was-read c = sym (c .before .before .before .before .before .pre .1) ∙ ap readOf (c .before .p2 .given .1)
 
 -- n and k are the machine's
-counted : (c : tie.Else2) → readProof (c .before .before .before .before .before .before .before .args .sheet .now) ≡ gives (counts (c .before .before .before .p2 .given .0 .0) (c .before .before .before .before .before .before .before .args .k) (c .before .before .before .before .before .before .before .args .n) (c .before .before .before .p2 .given .0 .1 .1 .1 .0))
+counted : (c : tie.Else2) → let a = c .before .before .before .before .before .before .before .args in let h = c .before .before .before .p2 .given .0 in
+    readProof (a .sheet .now) ≡ gives (counts (h .0) (a .k) (a .n) (h .1 .1 .1 .0))
 counted c = rw (c .before .if1 .left, c .if2 .left) at (was-read (c .before .before))
 
 enum-known-p : tie.Need-enum-known-p
@@ -31,34 +31,37 @@ enum-known-p-2 : tie.Need-enum-known-p-2
 enum-known-p-2 c = search needs
 
 returns : tie.Need-returns
-returns c = let a = c .before .before .before .before .before .before .args in sym (judge-other (a .n) (a .k) (link (a .n) (a .k) (a .words .now)) (a .sheet .now) (said (c .before)) (was-read (c .before)) (rw (is-false _ _ (c .if1 .taken)) refl))
+returns c = sym (judge-other _ _ _ _ _ (was-read (c .before)) (rw (is-false _ _ (c .if1 .taken)) refl))
 
 returns-2 : tie.Need-returns-2
-returns-2 c = let a = c .before .before .before .before .before .before .before .args in sym (judge-other (a .n) (a .k) (link (a .n) (a .k) (a .words .now)) (a .sheet .now) (said (c .before .before)) (was-read (c .before .before)) (rw (is-true _ _ (c .before .if1 .left), is-false _ _ (c .if2 .taken)) refl))
+returns-2 c = sym (judge-other _ _ _ _ _ (was-read (c .before .before)) (rw (is-true _ _ (c .before .if1 .left), is-false _ _ (c .if2 .taken)) refl))
 
 slice-aggregate-set-rows : tie.Need-slice-aggregate-set-rows
 slice-aggregate-set-rows c = search needs
 
 set-rows-requires : tie.Need-set-rows-requires
-set-rows-requires c κs = let a = c .before .before .before .before .before .before .before .before .args in rows-in (a .sheet .now) _ (counted (c .before))
+set-rows-requires c κs = rows-in _ _ (counted (c .before))
 
 mul-size : tie.Need-mul-size
-mul-size c = let a = c .before .before .before .before .before .before .before .before .before .before .args in omega (arith, rows-in (a .sheet .now) _ (counted (c .before .before .before)) .0)
+mul-size c = omega (arith, rows-in _ _ (counted (c .before .before .before)) .0)
 
 array-share-prefix-model : tie.Need-array-share-prefix-model
-array-share-prefix-model c = let a = c .before .before .before .before .before .before .before .before .before .before .args in omega (arith, rows-in (a .sheet .now) _ (counted (c .before .before .before)) .0)
+array-share-prefix-model c = omega (arith, rows-in _ _ (counted (c .before .before .before)) .0)
 
 slice-aggregate-questions : tie.Need-slice-aggregate-questions
-slice-aggregate-questions c = let a = c .before .before .before .before .before .before .before .before .before .before .before .args in sym (length-take-le _ _ (omega (arith, rows-in (a .sheet .now) _ (counted (c .before .before .before .before)) .0, c .before .before .set-rows .kept .0)))
+slice-aggregate-questions c = sym (length-take-le _ _ (omega (arith, rows-in _ _ (counted (c .before .before .before .before)) .0, c .before .before .set-rows .kept .0)))
 
 questions-requires : tie.Need-questions-requires
-questions-requires c κs = let a = c .before .before .before .before .before .before .before .before .before .before .before .args in (c .before .before .before .before .before .before .before .before .before .before .before .pre .0, (rw (c .before .before .set-rows .ensures) (held (a .sheet .now) _ (counted (c .before .before .before .before)) _ (λ i. omega (arith, c .before .before .before .before .before .before .before .before .before .shared-slice-known2 .given i))), counted (c .before .before .before .before)))
+questions-requires c κs = (
+  c .before .before .before .before .before .before .before .before .before .before .before .pre .0,
+  (rw (c .before .before .set-rows .ensures) (held _ _ (counted (c .before .before .before .before)) _ (λ i. omega (arith, c .before .before .before .before .before .before .before .before .before .shared-slice-known2 .given i))), counted (c .before .before .before .before)),
+)
 
 returns-3 : tie.Need-returns-3
-returns-3 c = let a = c .before .before .before .before .before .args in sym (judge-refused (a .n) (a .k) (link (a .n) (a .k) (a .words .now)) (a .sheet .now) _ (sym (c .before .before .before .before .before .pre .1) ∙ ap readOf (c .before .p .given .1)))
+returns-3 c = sym (judge-refused _ _ _ _ _ (sym (c .before .before .before .before .before .pre .1) ∙ ap readOf (c .before .p .given .1)))
 
 returns-4 : tie.Need-returns-4
-returns-4 c = let a = c .before .before .before .before .before .before .before .before .before .before .before .before .args in c .questions .ensures ∙ sym (judge-said (a .n) (a .k) (link (a .n) (a .k) (a .words .now)) (a .sheet .now) _ (counted (c .before .before .before .before .before)))
+returns-4 c = c .questions .ensures ∙ sym (judge-said _ _ _ _ _ (counted (c .before .before .before .before .before)))
 
 pub judge-spec : {M : Type 1} → statement M
 judge-spec =

@@ -10,7 +10,7 @@ use borrow.Author.Needs.{needs}
 use native.Mathlib.Omega.{arith}
 use mathlib.Core.Path.{_≡_, sym, ap, _∙_}
 use Prim.Native.Nat.{_+_, _-_, _≤_}
-use lib.ListN.{getD, take, drop}
+use lib.ListN.{getD}
 use Rattle.sheets.proofs.checker.reaches_all.Statement.{statement}
 use Rattle.sheets.proofs.checker.reaches_all.Tie as tie
 
@@ -21,17 +21,17 @@ abbrev μ-loop : tie.MeasureT-loop
 μ-loop sheet model m k place₀ state₀ place state = m - state
 
 -- the word of this turn, in the sheet
-here : (c : tie.In-loop Inv-loop μ-loop) → let a = c .before .before .before .before .args in let l = c .before .loop in Here (a .sheet .now) (a .k) (getD (said (a .sheet .now) .reaching) (l .state) []) (l .place) (reachingPlace (said (a .sheet .now)) (l .state + 1))
-here c = let l = c .before .loop in rw (l .inv .1) (reaching-here (c .before .before .before .before .pre) (l .state) (c .loop-test .taken))
+here : (c : tie.In-loop Inv-loop μ-loop) → let a = c .before .before .before .before .args in let l = c .before .loop in let P = said (a .sheet .now) in
+    Here (a .sheet .now) (a .k) (getD (P .reaching) (l .state) []) (l .place) (reachingPlace P (l .state + 1))
+here c = rw (c .before .loop .inv .1) (reaching-here (c .before .before .before .before .pre) _ (c .loop-test .taken))
 
--- what is lent on is that word
-word : (c : tie.After-state-after-arg Inv-loop μ-loop) → let a = c .before .before .before .before .before .before .before .args in let l = c .before .before .before .before .loop in take (l .place + 3 + c .before .wide .result - (l .place + 3)) (drop (l .place + 3) (a .sheet .now)) ≡ getD (said (a .sheet .now) .reaching) (l .state) []
-word c = here-part (here (c .before .before .before)) (c .before .wide .ensures)
-
--- so it is followed to its end
+-- what is lent on is that word, and so it is followed to its end
 led : (c : tie.After-state-after Inv-loop μ-loop) → let a = c .before .before .before .before .before .before .before .before .args in
     c .state-after .result ≡ walk (link (a .m) (a .k) (a .model .now) .next) 0 (getD (said (a .sheet .now) .reaching) (c .before .before .before .before .before .loop .state) [])
-led c = let a = c .before .before .before .before .before .before .before .before .args in c .state-after .ensures ∙ ap (walk (link (a .m) (a .k) (a .model .now) .next) 0) (word (c .before))
+led c =
+    let a = c .before .before .before .before .before .before .before .before .args in
+    let word = here-part (here (c .before .before .before .before)) (c .before .before .wide .ensures) in
+    c .state-after .ensures ∙ ap (walk (link (a .m) (a .k) (a .model .now) .next) 0) word
 
 mul-place : tie.Need-mul-place Inv-loop μ-loop
 mul-place c = let h = reaching-within (c .before .before .pre) in search needs
@@ -61,7 +61,7 @@ wide-requires : tie.Need-wide-requires Inv-loop μ-loop
 wide-requires c κs = search needs
 
 add-end : tie.Need-add-end Inv-loop μ-loop
-add-end c = omega (arith, here (c .before .before) .within, here (c .before .before) .size, c .wide .ensures)
+add-end c = let h = here (c .before .before) in omega (arith, h .within, h .size, c .wide .ensures)
 
 sub-state-after : tie.Need-sub-state-after Inv-loop μ-loop
 sub-state-after c = search needs
@@ -70,10 +70,10 @@ part-state-after-start : tie.Need-part-state-after-start Inv-loop μ-loop
 part-state-after-start c = search needs
 
 part-state-after-end : tie.Need-part-state-after-end Inv-loop μ-loop
-part-state-after-end c = omega (arith, here (c .before .before) .within, here (c .before .before) .size, c .wide .ensures)
+part-state-after-end c = let h = here (c .before .before) in omega (arith, h .within, h .size, c .wide .ensures)
 
 state-after-requires : tie.Need-state-after-requires Inv-loop μ-loop
-state-after-requires c κs = (sound-steps (c .before .before .before .before .before .before .before .pre .sound), rw (word c) (here (c .before .before .before) .below))
+state-after-requires c κs = let h = here (c .before .before .before) in (sound-steps (c .before .before .before .before .before .before .before .pre .sound), rw (here-part h (c .before .wide .ensures)) (h .below))
 
 returns : tie.Need-returns Inv-loop μ-loop
 returns c = sym (reaches-from (c .before .before .before .before .before .before .before .before .before .pre) _ ∙ c .before .before .before .before .before .before .loop .inv .2 ∙ fails _ _ _ (c .before .before .before .before .before .loop-test .taken) (is-false _ _ (λ q. c .if1 .taken (led (c .before) ∙ q))))

@@ -8,7 +8,7 @@ use borrow.Author.Needs.{needs}
 use native.Mathlib.Omega.{arith}
 use mathlib.Core.Path.{_≡_, refl, sym, ap, _∙_}
 use Prim.Native.Nat.{_+_, _-_, _<_, _≤_}
-use lib.ListN.{length, getD, take, drop}
+use lib.ListN.{length, getD, drop}
 use Rattle.sheets.proofs.checker.told_apart.Statement.{statement}
 use Rattle.sheets.proofs.checker.told_apart.Tie as tie
 
@@ -19,19 +19,21 @@ abbrev μ-loop : tie.MeasureT-loop
 μ-loop sheet at c model m k i j place₀ column₀ place column = c - column
 
 -- the column of this turn, in the sheet
-here : (c : tie.In-loop Inv-loop μ-loop) → let a = c .before .before .before .before .args in let l = c .before .loop in Here (a .sheet .now) (a .k) (getD (said (a .sheet .now) .columns) (l .column) []) (l .place) (columnPlace (said (a .sheet .now)) (l .column + 1))
-here c = let l = c .before .loop in rw (l .inv .1) (column-here (c .before .before .before .before .pre .0) (l .column) (rw (c .before .before .before .before .pre .1 .0 .1) (c .loop-test .taken)))
+here : (c : tie.In-loop Inv-loop μ-loop) → let a = c .before .before .before .before .args in let l = c .before .loop in let P = said (a .sheet .now) in
+    Here (a .sheet .now) (a .k) (getD (P .columns) (l .column) []) (l .place) (columnPlace P (l .column + 1))
+here c = let p = c .before .before .before .before .pre in rw (c .before .loop .inv .1) (column-here (p .0) _ (rw (p .1 .0 .1) (c .loop-test .taken)))
 
 -- it is one of the columns
 there : (c : tie.In-loop Inv-loop μ-loop) → c .before .loop .column < length (said (c .before .before .before .before .args .sheet .now) .columns)
-there c = omega (arith, columns-many (c .before .before .before .before .pre .0), c .before .before .before .before .pre .1 .0 .1, c .loop-test .taken)
+there c = let p = c .before .before .before .before .pre in omega (arith, columns-many (p .0), p .1 .0 .1, c .loop-test .taken)
 
 -- what is lent on is that word, and so it is what tells
-word : (c : tie.After-column-tells-arg Inv-loop μ-loop) → let a = c .before .before .before .before .before .before .before .args in let l = c .before .before .before .before .loop in take (l .place + 3 + c .before .wide .result - (l .place + 3)) (drop (l .place + 3) (a .sheet .now)) ≡ getD (said (a .sheet .now) .columns) (l .column) []
-word c = here-part (here (c .before .before .before)) (c .before .wide .ensures)
-
-told : (c : tie.After-column-tells Inv-loop μ-loop) → let a = c .before .before .before .before .before .before .before .before .args in let l = c .before .before .before .before .before .loop in tells (link (a .m) (a .k) (a .model .now)) (a .i) (a .j) (getD (said (a .sheet .now) .columns) (l .column) []) ≡ c .column-tells .result
-told c = let a = c .before .before .before .before .before .before .before .before .args in sym (c .column-tells .ensures ∙ ap (tells (link (a .m) (a .k) (a .model .now)) (a .i) (a .j)) (word (c .before)))
+told : (c : tie.After-column-tells Inv-loop μ-loop) → let a = c .before .before .before .before .before .before .before .before .args in
+    tells (link (a .m) (a .k) (a .model .now)) (a .i) (a .j) (getD (said (a .sheet .now) .columns) (c .before .before .before .before .before .loop .column) []) ≡ c .column-tells .result
+told c =
+    let a = c .before .before .before .before .before .before .before .before .args in
+    let word = here-part (here (c .before .before .before .before)) (c .before .before .wide .ensures) in
+    sym (c .column-tells .ensures ∙ ap (tells (link (a .m) (a .k) (a .model .now)) (a .i) (a .j)) word)
 
 loop-holds : tie.Need-loop-holds Inv-loop μ-loop
 loop-holds c = (search needs, c .before .before .pre .1 .0 .0, refl)
@@ -49,7 +51,7 @@ wide-requires : tie.Need-wide-requires Inv-loop μ-loop
 wide-requires c κs = search needs
 
 add-end : tie.Need-add-end Inv-loop μ-loop
-add-end c = omega (arith, here (c .before .before) .within, here (c .before .before) .size, c .wide .ensures)
+add-end c = let h = here (c .before .before) in omega (arith, h .within, h .size, c .wide .ensures)
 
 sub-column-tells : tie.Need-sub-column-tells Inv-loop μ-loop
 sub-column-tells c = search needs
@@ -58,10 +60,12 @@ part-column-tells-start : tie.Need-part-column-tells-start Inv-loop μ-loop
 part-column-tells-start c = search needs
 
 part-column-tells-end : tie.Need-part-column-tells-end Inv-loop μ-loop
-part-column-tells-end c = omega (arith, here (c .before .before) .within, here (c .before .before) .size, c .wide .ensures)
+part-column-tells-end c = let h = here (c .before .before) in omega (arith, h .within, h .size, c .wide .ensures)
 
 column-tells-requires : tie.Need-column-tells-requires Inv-loop μ-loop
-column-tells-requires c κs = let p = c .before .before .before .before .before .before .before .pre in (p .0 .sound, (p .1 .1 .0, p .1 .1 .1, rw (word c) (here (c .before .before .before) .below)))
+column-tells-requires c κs = let p = c .before .before .before .before .before .before .before .pre in
+    let h = here (c .before .before .before) in
+    (p .0 .sound, (p .1 .1 .0, p .1 .1 .1, rw (here-part h (c .before .wide .ensures)) (h .below)))
 
 returns : tie.Need-returns Inv-loop μ-loop
 returns c = sym (told-from (c .before .before .before .before .before .before .before .before .before .pre .0) _ _ _ ∙ c .before .before .before .before .before .before .loop .inv .2 ∙ some-here _ _ _ (there (c .before .before .before .before .before)) (told (c .before) ∙ c .if1 .taken))
