@@ -15,7 +15,7 @@ use Rattle.rules.specs.Tests.{outcome, or-split, eqb-true, eqb-false, ltb-yes, 
 use Rattle.rules.specs.Words.{Word}
 use Rattle.rules.specs.Search.{walk}
 use Rattle.rules.specs.Machine.{Machine, lent, lastFrom}
-use Rattle.rules.specs.Answer.{refused, gives, demand, _>>_}
+use Rattle.rules.specs.Answer.{Answer, refused, gives, demand, _>>_}
 use Rattle.rules.specs.Sheets.{Proof}
 use Rattle.machine.specs.Lent.{link, allPass, Sound}
 use Rattle.machine.specs.LentLaws.{all-at}
@@ -86,7 +86,9 @@ apart-alone M N P = refl
 module _ {sheet model : List ℕ} {m k : ℕ} (H : Held sheet model m k) (M : Machine) where
   pub reaches-from : reachesAll M (said sheet) ≡ allFrom (reached (link m k model) (said sheet)) 0 m
   unfolding reachesAll
-  reaches-from = ap (λ (N : Machine). allFrom (reached N (said sheet)) 0 (said sheet .m)) (model-is H) ∙ ap (allFrom (reached (link m k model) (said sheet)) 0) (H .states)
+  reaches-from =
+      ap (λ (N : Machine). allFrom (reached N (said sheet)) 0 (said sheet .m)) (model-is H)
+      ∙ ap (allFrom (reached (link m k model) (said sheet)) 0) (H .states)
 
   pub told-from : (i j : ℕ) → toldApart M (said sheet) i j ≡ someWord (tells (link m k model) i j) (said sheet .columns)
   unfolding toldApart tells
@@ -112,10 +114,9 @@ same-test false false f g = refl
 
 module _ (M : Machine) (P : Proof) where
   told-turned : (i j : ℕ) → toldApart M P i j ≡ toldApart M P j i
-  unfolding toldApart
+  unfolding toldApart tells
   told-turned i j =
-      same-words (λ (e : Word). not (eqb (lastFrom (modelOf P) 0 i e) (lastFrom (modelOf P) 0 j e))) (λ (e : Word). not (eqb (lastFrom (modelOf P) 0 j e) (lastFrom (modelOf P) 0 i e)))
-      (P .columns) (λ e. ap not (eqb-turned (lastFrom (modelOf P) 0 i e) (lastFrom (modelOf P) 0 j e)))
+      same-words (tells (modelOf P) i j) (tells (modelOf P) j i) (P .columns) (λ e. ap not (eqb-turned (lastFrom (modelOf P) 0 i e) (lastFrom (modelOf P) 0 j e)))
 
   apart-from : allApart M P ≡ allFrom (apartBefore M P) 0 (P .m)
   unfolding allApart apartBefore
@@ -131,22 +132,34 @@ module _ (M : Machine) (P : Proof) where
       other i j h (inl e) = let q = eqb-true i j e in absurd (omega arith)
       other i j h (inr e) = e
 
+      asked : allApart M P ≡ true → (i j : ℕ) → i < P .m → j < P .m → test i j ≡ true
+      asked e i j hi hj = all-true (test i) 0 (P .m) (all-true row 0 (P .m) e i (omega arith) (omega arith)) j (omega arith) (omega arith)
+
       once : allApart M P ≡ true → allFrom (apartBefore M P) 0 (P .m) ≡ true
-      once e = true-all (apartBefore M P) 0 (P .m) (λ i l u. true-all (toldApart M P i) 0 i (λ j l′ u′.
-          other i j (omega arith) (or-split (eqb i j) (toldApart M P i j) (all-true (test i) 0 (P .m) (all-true row 0 (P .m) e i (omega arith) (omega arith)) j (omega arith) (omega arith)))))
+      once e =
+          true-all (apartBefore M P) 0 (P .m)
+          (λ i l u. true-all (toldApart M P i) 0 i
+          (λ j l′ u′. other i j (omega arith) (or-split (eqb i j) (toldApart M P i j) (asked e i j (omega arith) (omega arith)))))
 
       below : allFrom (apartBefore M P) 0 (P .m) ≡ true → (i j : ℕ) → i < P .m → j < i → toldApart M P i j ≡ true
-      below e i j hi h = all-true (toldApart M P i) 0 i (all-true (apartBefore M P) 0 (P .m) e i (omega arith) (omega arith)) j (omega arith) (omega arith)
+      below e i j hi h =
+          all-true (toldApart M P i) 0 i (all-true (apartBefore M P) 0 (P .m) e i (omega arith) (omega arith)) j (omega arith) (omega arith)
 
-      pair : allFrom (apartBefore M P) 0 (P .m) ≡ true → (i j : ℕ) → i < P .m → j < P .m → (eqb i j ≡ true) ⊎ (eqb i j ≡ false) → (ltb i j ≡ true) ⊎ (ltb i j ≡ false) → test i j ≡ true
+      pair : allFrom (apartBefore M P) 0 (P .m) ≡ true → (i j : ℕ) → i < P .m → j < P .m
+          → (eqb i j ≡ true) ⊎ (eqb i j ≡ false) → (ltb i j ≡ true) ⊎ (ltb i j ≡ false) → test i j ≡ true
       pair e i j hi hj (inl q) a = rw q refl
       pair e i j hi hj (inr d) (inl a) = or-true (eqb i j) (toldApart M P i j) (told-turned i j ∙ below e j i hj (ltb-yes i j a))
-      pair e i j hi hj (inr d) (inr a) = let l = ltb-no i j a in or-true (eqb i j) (toldApart M P i j) (below e i j hi (omega (arith, eqb-false i j d)))
+      pair e i j hi hj (inr d) (inr a) =
+          let l = ltb-no i j a in
+          or-true (eqb i j) (toldApart M P i j) (below e i j hi (omega (arith, eqb-false i j d)))
 
       both : allFrom (apartBefore M P) 0 (P .m) ≡ true → allApart M P ≡ true
-      both e = true-all row 0 (P .m) (λ i l u. true-all (test i) 0 (P .m) (λ j l′ u′. pair e i j (omega arith) (omega arith) (outcome (eqb i j)) (outcome (ltb i j))))
+      both e =
+          true-all row 0 (P .m)
+          (λ i l u. true-all (test i) 0 (P .m) (λ j l′ u′. pair e i j (omega arith) (omega arith) (outcome (eqb i j)) (outcome (ltb i j))))
 
-pub apart-asked : {sheet model : List ℕ} {m k : ℕ} → Held sheet model m k → (M : Machine) → allApart M (said sheet) ≡ allFrom (apartBefore M (said sheet)) 0 m
+pub apart-asked : {sheet model : List ℕ} {m k : ℕ} → Held sheet model m k → (M : Machine)
+    → allApart M (said sheet) ≡ allFrom (apartBefore M (said sheet)) 0 m
 apart-asked {sheet} H M = apart-from M (said sheet) ∙ ap (allFrom (apartBefore M (said sheet)) 0) (H .states)
 
 -- ---- 14: machine, model and map, as the code holds them
@@ -209,7 +222,8 @@ module _ {n k : ℕ} {words : List ℕ} {m : ℕ} {model map : List ℕ} (G : Ma
   unfolding stateAgrees
   agrees-none s hs e = rw (state-is s hs, e) refl
 
-  pub agrees-from : (s : ℕ) → s < n → getD map s 0 ≢ 255 → stateAgrees (link n k words) (mapped n k m model map) s ≡ allFrom (stepAgrees (link n k words) (mapped n k m model map) s) 0 k
+  pub agrees-from : (s : ℕ) → s < n → getD map s 0 ≢ 255
+      → stateAgrees (link n k words) (mapped n k m model map) s ≡ allFrom (stepAgrees (link n k words) (mapped n k m model map) s) 0 k
   unfolding stateAgrees
   agrees-from s hs d = rw (state-is s hs, is-false (getD map s 0) 255 d) refl
 
@@ -221,11 +235,19 @@ module _ {n k : ℕ} {words : List ℕ} {m : ℕ} {model map : List ℕ} (G : Ma
   unfolding mapHolds
   holds-not d = rw (state-is 0 start-in, is-false (getD map 0 0) 0 d) refl
 
-  pub holds-from : getD map 0 0 ≡ 0 → mapHolds (link n k words) (mapped n k m model map) ≡ allFrom (stateAgrees (link n k words) (mapped n k m model map)) 0 n
+  pub holds-from : getD map 0 0 ≡ 0
+      → mapHolds (link n k words) (mapped n k m model map) ≡ allFrom (stateAgrees (link n k words) (mapped n k m model map)) 0 n
   unfolding mapHolds stateAgrees
   holds-from e = rw (state-is 0 start-in, e) refl
 
 -- ---- the questions in order
+-- 12 to 14
+abbrev three : Machine → Proof → Answer (Unit {0})
+three M P = do
+  demand (reachesAll M P) 12
+  demand (allApart M P) 13
+  demand (mapHolds M P) 14
+
 module _ {sheet model : List ℕ} {m k n c : ℕ} (H : Held sheet model m k) (e : readProof sheet ≡ gives (counts m k n c)) where
   pub mapping : {words : List ℕ} → Sound n k words → Mapping n k words m model (said sheet .stateMap)
   mapping sound =
@@ -241,7 +263,7 @@ module _ {sheet model : List ℕ} {m k n c : ℕ} (H : Held sheet model m k) (e 
   map-same M = map-alone M (said sheet) ∙ rw (mapped-states H e, H .letters, H .states, H .words) refl
 
   -- n and k are the machine's: the other three questions are left
-  pub judge-same : (M : Machine) → judge n k M (said sheet) ≡ _>>_ (demand (reachesAll M (said sheet)) 12) (_>>_ (demand (allApart M (said sheet)) 13) (demand (mapHolds M (said sheet)) 14))
+  pub judge-same : (M : Machine) → judge n k M (said sheet) ≡ three M (said sheet)
   unfolding judge
   judge-same M = rw (is-true (said sheet .n) n (mapped-states H e), is-true (said sheet .k) k (H .letters)) refl
 

@@ -61,7 +61,8 @@ module _ (sheet : List ℕ) (h : Counts) (e : readProof sheet ≡ gives h) where
       )
 
   -- put into an area they are its model
-  pub held : (area : List ℕ) → ((i : ℕ) → getD sheet i 0 < 256) → Held sheet (take (h .m * h .k) (put 0 (rowWords (h .k) (h .m) (drop 6 sheet)) area)) (h .m) (h .k)
+  pub held : (area : List ℕ) → ((i : ℕ) → getD sheet i 0 < 256)
+      → Held sheet (take (h .m * h .k) (put 0 (rowWords (h .k) (h .m) (drop 6 sheet)) area)) (h .m) (h .k)
   unfolding put
   held area b =
       let g = read-good sheet h e in
@@ -70,7 +71,8 @@ module _ (sheet : List ℕ) (h : Counts) (e : readProof sheet ≡ gives h) where
       let m : P .m ≡ h .m = ap (λ (h : Counts). h .m) (g .3) in
       let k : P .k ≡ h .k = ap (λ (h : Counts). h .k) (g .3) in
       let words : List ℕ = rowWords (h .k) (h .m) (drop 6 sheet) in
-      let front : take (h .m * h .k) (put 0 words area) ≡ words = take-at words (drop (0 + length words) area) (h .m * h .k) (row-words-length (h .k) (h .m) (drop 6 sheet)) in
+      let long : length words ≡ h .m * h .k = row-words-length (h .k) (h .m) (drop 6 sheet) in
+      let front : take (h .m * h .k) (put 0 words area) ≡ words = take-at words (drop (0 + length words) area) (h .m * h .k) long in
       let all : P .model ≡ take (h .m * h .k) (put 0 words area) = (rw (m, k) at (laid sheet P (g .1) (g .2) .model .is)) ∙ sym front in
       record {
         read = g .2 ∙ rw (read-ends sheet P (g .1) (g .2)) (ap (λ (Q : Proof). good Q []) (sym is));
@@ -135,7 +137,8 @@ module _ {sheet model : List ℕ} {m k : ℕ} (H : Held sheet model m k) where
   pub reaching-within : (k ≤ 12) × (6 + m * (2 + 2 * k) ≤ length sheet)
   reaching-within = (H .sound .k-high, rw (H .states, H .letters) at (laid sheet (said sheet) [] (H .read) .start))
 
-  pub reaching-here : (j : ℕ) → j < m → Here sheet k (getD (said sheet .reaching) j []) (reachingPlace (said sheet) j) (reachingPlace (said sheet) (j + 1))
+  pub reaching-here : (j : ℕ) → j < m
+      → Here sheet k (getD (said sheet .reaching) j []) (reachingPlace (said sheet) j) (reachingPlace (said sheet) (j + 1))
   unfolding reachingPlace
   reaching-here j h =
       let P : Proof = said sheet in
@@ -145,7 +148,8 @@ module _ {sheet model : List ℕ} {m k : ℕ} (H : Held sheet model m k) where
   pub columns-many : length (said sheet .columns) ≡ said sheet .c
   columns-many = laid sheet (said sheet) [] (H .read) .columns .0
 
-  pub column-here : (j : ℕ) → j < said sheet .c → Here sheet k (getD (said sheet .columns) j []) (columnPlace (said sheet) j) (columnPlace (said sheet) (j + 1))
+  pub column-here : (j : ℕ) → j < said sheet .c
+      → Here sheet k (getD (said sheet .columns) j []) (columnPlace (said sheet) j) (columnPlace (said sheet) (j + 1))
   unfolding columnPlace
   column-here j h =
       let P : Proof = said sheet in
@@ -155,7 +159,8 @@ module _ {sheet model : List ℕ} {m k : ℕ} (H : Held sheet model m k) where
 module _ {sheet model : List ℕ} {m k n c : ℕ} (H : Held sheet model m k) (e : readProof sheet ≡ gives (counts m k n c)) where
   -- the counts that reading gave are those of the sheet
   counted : counts (said sheet .m) (said sheet .k) (said sheet .n) (said sheet .c) ≡ counts m k n c
-  counted = let g = read-good sheet (counts m k n c) e in ap (λ (P : Proof). counts (P .m) (P .k) (P .n) (P .c)) (said-is sheet (g .1) (g .0) (g .2)) ∙ g .3
+  counted = let g = read-good sheet (counts m k n c) e in
+      ap (λ (P : Proof). counts (P .m) (P .k) (P .n) (P .c)) (said-is sheet (g .1) (g .0) (g .2)) ∙ g .3
 
   pub mapped-states : said sheet .n ≡ n
   mapped-states = ap (λ (h : Counts). h .n) counted
@@ -166,7 +171,8 @@ module _ {sheet model : List ℕ} {m k n c : ℕ} (H : Held sheet model m k) (e 
   columns-at =
       let r = reaching-records sheet (said sheet) [] (H .read) .places (said sheet .m) (omega arith) in
       let start : 6 + said sheet .m * (2 + 2 * said sheet .k) ≡ 6 + m * (2 + 2 * k) = rw (H .states, H .letters) refl in
-      let is : recordPlace sheet (6 + m * (2 + 2 * k)) m ≡ reachingPlace (said sheet) (said sheet .m) = (rw (start, H .states) at (r .0)) ∙ rw (start, H .states) refl in
+      let is : recordPlace sheet (6 + m * (2 + 2 * k)) m ≡ reachingPlace (said sheet) (said sheet .m) = (rw (start, H .states) at (r .0))
+      ∙ rw (start, H .states) refl in
       (omega (arith, is, r .0, r .1), (omega (arith, is), ap (λ (h : Counts). h .c) counted))
 
   -- the map lies at the end

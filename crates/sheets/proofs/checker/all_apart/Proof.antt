@@ -10,7 +10,8 @@ use Rattle.sheets.proofs.checker.all_apart.Statement.{statement}
 use Rattle.sheets.proofs.checker.all_apart.Tie as tie
 
 abbrev Inv-loop : tie.InvT-loop
-Inv-loop sheet at c model m k i₀ i = (i ≤ m) × (allFrom (apartBefore (link m k model) (said sheet)) 0 m ≡ allFrom (apartBefore (link m k model) (said sheet)) i (m - i))
+Inv-loop sheet at c model m k i₀ i = (i ≤ m)
+    × (allFrom (apartBefore (link m k model) (said sheet)) 0 m ≡ allFrom (apartBefore (link m k model) (said sheet)) i (m - i))
 
 abbrev μ-loop : tie.MeasureT-loop
 μ-loop sheet at c model m k i₀ i = m - i
@@ -23,7 +24,8 @@ apart-from-earlier-requires c κs = let p = c .before .before .before .before .p
 
 returns : tie.Need-returns Inv-loop μ-loop
 returns c = sym (apart-asked (c .before .before .before .before .before .before .pre .0) _ ∙ c .before .before .before .loop .inv .1
-    ∙ fails _ _ _ (c .before .before .loop-test .taken) (sym (c .before .apart-from-earlier .ensures) ∙ not-true (c .before .apart-from-earlier .result) (c .if1 .taken)))
+    ∙ fails _ _ _ (c .before .before .loop-test .taken) (sym (c .before .apart-from-earlier .ensures)
+    ∙ not-true (c .before .apart-from-earlier .result) (c .if1 .taken)))
 
 add-i : tie.Need-add-i Inv-loop μ-loop
 add-i c = search needs
@@ -34,7 +36,8 @@ loop-less c = search needs
 loop-again : tie.Need-loop-again Inv-loop μ-loop
 loop-again c = (
   search needs,
-  c .before .before .before .loop .inv .1 ∙ passes _ _ _ (c .before .before .loop-test .taken) (sym (c .before .apart-from-earlier .ensures) ∙ not-false (c .before .apart-from-earlier .result) (c .if1 .left)),
+  c .before .before .before .loop .inv .1 ∙ passes _ _ _ (c .before .before .loop-test .taken) (sym (c .before .apart-from-earlier .ensures)
+      ∙ not-false (c .before .apart-from-earlier .result) (c .if1 .left)),
 )
 
 returns-2 : tie.Need-returns-2 Inv-loop μ-loop

@@ -20,7 +20,8 @@ was-read : (c : tie.After-known-told2) → readProof (c .before .before .before 
 was-read c = sym (c .before .before .before .before .before .pre .1) ∙ ap readOf (c .before .p2 .given .1)
 
 -- n and k are the machine's
-counted : (c : tie.Else2) → let a = c .before .before .before .before .before .before .before .args in let h = c .before .before .before .p2 .given .0 in
+counted : (c : tie.Else2) → let a = c .before .before .before .before .before .before .before .args in
+    let h = c .before .before .before .p2 .given .0 in
     readProof (a .sheet .now) ≡ gives (counts (h .0) (a .k) (a .n) (h .1 .1 .1 .0))
 counted c = rw (c .before .if1 .left, c .if2 .left) at (was-read (c .before .before))
 
@@ -49,12 +50,22 @@ array-share-prefix-model : tie.Need-array-share-prefix-model
 array-share-prefix-model c = omega (arith, rows-in _ _ (counted (c .before .before .before)) .0)
 
 slice-aggregate-questions : tie.Need-slice-aggregate-questions
-slice-aggregate-questions c = sym (length-take-le _ _ (omega (arith, rows-in _ _ (counted (c .before .before .before .before)) .0, c .before .before .set-rows .kept .0)))
+slice-aggregate-questions c = sym (length-take-le _ _ (omega (
+  arith,
+  rows-in _ _ (counted
+      (c .before .before .before .before)) .0,
+  c .before .before .set-rows .kept .0,
+)))
 
 questions-requires : tie.Need-questions-requires
 questions-requires c κs = (
   c .before .before .before .before .before .before .before .before .before .before .before .pre .0,
-  (rw (c .before .before .set-rows .ensures) (held _ _ (counted (c .before .before .before .before)) _ (λ i. omega (arith, c .before .before .before .before .before .before .before .before .before .shared-slice-known2 .given i))), counted (c .before .before .before .before)),
+  (
+    rw (c .before .before .set-rows .ensures) (held _ _ (counted (c .before .before .before .before)) _ (λ i. omega
+        (arith, c .before .before .before .before .before .before .before .before .before .shared-slice-known2 .given i))),
+    counted
+        (c .before .before .before .before),
+  ),
 )
 
 returns-3 : tie.Need-returns-3

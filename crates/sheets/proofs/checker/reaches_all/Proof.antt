@@ -15,19 +15,22 @@ use Rattle.sheets.proofs.checker.reaches_all.Statement.{statement}
 use Rattle.sheets.proofs.checker.reaches_all.Tie as tie
 
 abbrev Inv-loop : tie.InvT-loop
-Inv-loop sheet model m k place₀ state₀ place state = (state ≤ m) × (place ≡ reachingPlace (said sheet) state) × (allFrom (reached (link m k model) (said sheet)) 0 m ≡ allFrom (reached (link m k model) (said sheet)) state (m - state))
+Inv-loop sheet model m k place₀ state₀ place state = (state ≤ m) × (place ≡ reachingPlace (said sheet) state)
+    × (allFrom (reached (link m k model) (said sheet)) 0 m ≡ allFrom (reached (link m k model) (said sheet)) state (m - state))
 
 abbrev μ-loop : tie.MeasureT-loop
 μ-loop sheet model m k place₀ state₀ place state = m - state
 
 -- the word of this turn, in the sheet
-here : (c : tie.In-loop Inv-loop μ-loop) → let a = c .before .before .before .before .args in let l = c .before .loop in let P = said (a .sheet .now) in
+here : (c : tie.In-loop Inv-loop μ-loop) → let a = c .before .before .before .before .args in let l = c .before .loop in
+    let P = said (a .sheet .now) in
     Here (a .sheet .now) (a .k) (getD (P .reaching) (l .state) []) (l .place) (reachingPlace P (l .state + 1))
 here c = rw (c .before .loop .inv .1) (reaching-here (c .before .before .before .before .pre) _ (c .loop-test .taken))
 
 -- what is lent on is that word, and so it is followed to its end
 led : (c : tie.After-state-after Inv-loop μ-loop) → let a = c .before .before .before .before .before .before .before .before .args in
-    c .state-after .result ≡ walk (link (a .m) (a .k) (a .model .now) .next) 0 (getD (said (a .sheet .now) .reaching) (c .before .before .before .before .before .loop .state) [])
+    c .state-after .result ≡ walk (link (a .m) (a .k) (a .model .now) .next) 0 (getD (said (a .sheet .now) .reaching)
+    (c .before .before .before .before .before .loop .state) [])
 led c =
     let a = c .before .before .before .before .before .before .before .before .args in
     let word = here-part (here (c .before .before .before .before)) (c .before .before .wide .ensures) in
@@ -73,10 +76,13 @@ part-state-after-end : tie.Need-part-state-after-end Inv-loop μ-loop
 part-state-after-end c = let h = here (c .before .before) in omega (arith, h .within, h .size, c .wide .ensures)
 
 state-after-requires : tie.Need-state-after-requires Inv-loop μ-loop
-state-after-requires c κs = let h = here (c .before .before .before) in (sound-steps (c .before .before .before .before .before .before .before .pre .sound), rw (here-part h (c .before .wide .ensures)) (h .below))
+state-after-requires c κs = let h = here (c .before .before .before) in
+    (sound-steps (c .before .before .before .before .before .before .before .pre .sound), rw (here-part h (c .before .wide .ensures)) (h .below))
 
 returns : tie.Need-returns Inv-loop μ-loop
-returns c = sym (reaches-from (c .before .before .before .before .before .before .before .before .before .pre) _ ∙ c .before .before .before .before .before .before .loop .inv .2 ∙ fails _ _ _ (c .before .before .before .before .before .loop-test .taken) (is-false _ _ (λ q. c .if1 .taken (led (c .before) ∙ q))))
+returns c = sym (reaches-from (c .before .before .before .before .before .before .before .before .before .pre) _
+    ∙ c .before .before .before .before .before .before .loop .inv .2
+    ∙ fails _ _ _ (c .before .before .before .before .before .loop-test .taken) (is-false _ _ (λ q. c .if1 .taken (led (c .before) ∙ q))))
 
 add-state : tie.Need-add-state Inv-loop μ-loop
 add-state c = search needs
@@ -87,8 +93,15 @@ loop-less c = search needs
 loop-again : tie.Need-loop-again Inv-loop μ-loop
 loop-again c = (
   search needs,
-  omega (arith, here (c .before .before .before .before .before) .after, here (c .before .before .before .before .before) .size, c .before .before .before .wide .ensures),
-  c .before .before .before .before .before .before .loop .inv .2 ∙ passes _ _ _ (c .before .before .before .before .before .loop-test .taken) (is-true _ _ (sym (led (c .before)) ∙ c .if1 .left)),
+  omega (
+    arith,
+    here (c .before .before .before .before .before) .after,
+    here
+        (c .before .before .before .before .before) .size,
+    c .before .before .before .wide .ensures,
+  ),
+  c .before .before .before .before .before .before .loop .inv .2
+      ∙ passes _ _ _ (c .before .before .before .before .before .loop-test .taken) (is-true _ _ (sym (led (c .before)) ∙ c .if1 .left)),
 )
 
 returns-2 : tie.Need-returns-2 Inv-loop μ-loop

@@ -16,7 +16,8 @@ output-requires : tie.Need-output-requires
 output-requires c κs = let p = c .before .before .before .before .before .pre in word-in (p .0) _ _ (p .1 .0) (p .1 .1)
 
 output-requires-2 : tie.Need-output-requires-2
-output-requires-2 c κs = let p = c .before .before .before .before .before .before .pre in rw (c .before .wide .ensures) (model-in (p .0) _ _ (p .1 .2) (p .1 .1))
+output-requires-2 c κs = let p = c .before .before .before .before .before .before .pre in
+    rw (c .before .wide .ensures) (model-in (p .0) _ _ (p .1 .2) (p .1 .1))
 
 returns : tie.Need-returns
 returns c = let p = c .before .before .before .before .before .before .before .before .pre in
@@ -27,13 +28,15 @@ next-requires : tie.Need-next-requires
 next-requires c κs = let p = c .before .before .before .before .before .before .before .before .pre in word-in (p .0) _ _ (p .1 .0) (p .1 .1)
 
 shared-slice-read-wide-2 : tie.Need-shared-slice-read-wide-2
-shared-slice-read-wide-2 c = let p = c .before .before .before .before .before .before .before .before .before .before .pre in rw (c .before .next .ensures) (next-in (p .0) _ _ (p .1 .0) (p .1 .1))
+shared-slice-read-wide-2 c = let p = c .before .before .before .before .before .before .before .before .before .before .pre in
+    rw (c .before .next .ensures) (next-in (p .0) _ _ (p .1 .0) (p .1 .1))
 
 wide-requires-2 : tie.Need-wide-requires-2
 wide-requires-2 c κs = search needs
 
 next-requires-2 : tie.Need-next-requires-2
-next-requires-2 c κs = let p = c .before .before .before .before .before .before .before .before .before .before .before .pre in rw (c .before .before .before .before .before .before .wide .ensures) (model-in (p .0) _ _ (p .1 .2) (p .1 .1))
+next-requires-2 c κs = let p = c .before .before .before .before .before .before .before .before .before .before .before .pre in
+    rw (c .before .before .before .before .before .before .wide .ensures) (model-in (p .0) _ _ (p .1 .2) (p .1 .1))
 
 returns-2 : tie.Need-returns-2
 returns-2 c = let p = c .before .before .before .before .before .before .before .before .before .before .before .before .pre in

@@ -13,13 +13,15 @@ use Rattle.sheets.proofs.checker.told_apart.Statement.{statement}
 use Rattle.sheets.proofs.checker.told_apart.Tie as tie
 
 abbrev Inv-loop : tie.InvT-loop
-Inv-loop sheet at c model m k i j place₀ column₀ place column = (column ≤ c) × (place ≡ columnPlace (said sheet) column) × (someWord (tells (link m k model) i j) (said sheet .columns) ≡ someWord (tells (link m k model) i j) (drop column (said sheet .columns)))
+Inv-loop sheet at c model m k i j place₀ column₀ place column = (column ≤ c) × (place ≡ columnPlace (said sheet) column)
+    × (someWord (tells (link m k model) i j) (said sheet .columns) ≡ someWord (tells (link m k model) i j) (drop column (said sheet .columns)))
 
 abbrev μ-loop : tie.MeasureT-loop
 μ-loop sheet at c model m k i j place₀ column₀ place column = c - column
 
 -- the column of this turn, in the sheet
-here : (c : tie.In-loop Inv-loop μ-loop) → let a = c .before .before .before .before .args in let l = c .before .loop in let P = said (a .sheet .now) in
+here : (c : tie.In-loop Inv-loop μ-loop) → let a = c .before .before .before .before .args in let l = c .before .loop in
+    let P = said (a .sheet .now) in
     Here (a .sheet .now) (a .k) (getD (P .columns) (l .column) []) (l .place) (columnPlace P (l .column + 1))
 here c = let p = c .before .before .before .before .pre in rw (c .before .loop .inv .1) (column-here (p .0) _ (rw (p .1 .0 .1) (c .loop-test .taken)))
 
@@ -29,7 +31,8 @@ there c = let p = c .before .before .before .before .pre in omega (arith, column
 
 -- what is lent on is that word, and so it is what tells
 told : (c : tie.After-column-tells Inv-loop μ-loop) → let a = c .before .before .before .before .before .before .before .before .args in
-    tells (link (a .m) (a .k) (a .model .now)) (a .i) (a .j) (getD (said (a .sheet .now) .columns) (c .before .before .before .before .before .loop .column) []) ≡ c .column-tells .result
+    tells (link (a .m) (a .k) (a .model .now)) (a .i) (a .j) (getD (said (a .sheet .now) .columns)
+    (c .before .before .before .before .before .loop .column) []) ≡ c .column-tells .result
 told c =
     let a = c .before .before .before .before .before .before .before .before .args in
     let word = here-part (here (c .before .before .before .before)) (c .before .before .wide .ensures) in
@@ -68,7 +71,9 @@ column-tells-requires c κs = let p = c .before .before .before .before .before 
     (p .0 .sound, (p .1 .1 .0, p .1 .1 .1, rw (here-part h (c .before .wide .ensures)) (h .below)))
 
 returns : tie.Need-returns Inv-loop μ-loop
-returns c = sym (told-from (c .before .before .before .before .before .before .before .before .before .pre .0) _ _ _ ∙ c .before .before .before .before .before .before .loop .inv .2 ∙ some-here _ _ _ (there (c .before .before .before .before .before)) (told (c .before) ∙ c .if1 .taken))
+returns c = sym (told-from (c .before .before .before .before .before .before .before .before .before .pre .0) _ _ _
+    ∙ c .before .before .before .before .before .before .loop .inv .2
+    ∙ some-here _ _ _ (there (c .before .before .before .before .before)) (told (c .before) ∙ c .if1 .taken))
 
 add-column : tie.Need-add-column Inv-loop μ-loop
 add-column c = search needs
@@ -79,14 +84,27 @@ loop-less c = search needs
 loop-again : tie.Need-loop-again Inv-loop μ-loop
 loop-again c = (
   search needs,
-  omega (arith, here (c .before .before .before .before .before) .after, here (c .before .before .before .before .before) .size, c .before .before .before .wide .ensures),
-  c .before .before .before .before .before .before .loop .inv .2 ∙ some-later _ _ _ (there (c .before .before .before .before .before)) (told (c .before) ∙ c .if1 .left),
+  omega (
+    arith,
+    here (c .before .before .before .before .before) .after,
+    here
+        (c .before .before .before .before .before) .size,
+    c .before .before .before .wide .ensures,
+  ),
+  c .before .before .before .before .before .before .loop .inv .2
+      ∙ some-later _ _ _ (there (c .before .before .before .before .before)) (told (c .before) ∙ c .if1 .left),
 )
 
 returns-2 : tie.Need-returns-2 Inv-loop μ-loop
 returns-2 c = let p = c .before .before .before .before .pre in
     let l = c .before .loop in
-    sym (told-from (p .0) _ _ _ ∙ l .inv .2 ∙ some-none _ (said (c .before .before .before .before .args .sheet .now) .columns) (l .column) (omega (arith, columns-many (p .0), p .1 .0 .1)))
+    sym (told-from (p .0) _ _ _ ∙ l .inv .2
+    ∙ some-none _ (said (c .before .before .before .before .args .sheet .now) .columns) (l .column) (omega (
+      arith,
+      columns-many
+          (p .0),
+      p .1 .0 .1,
+    )))
 
 pub told-apart-spec : {M : Type 1} → statement M
 told-apart-spec =
