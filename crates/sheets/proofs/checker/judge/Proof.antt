@@ -50,23 +50,16 @@ array-share-prefix-model : tie.Need-array-share-prefix-model
 array-share-prefix-model c = omega (arith, rows-in _ _ (counted (c .before .before .before)) .0)
 
 slice-aggregate-questions : tie.Need-slice-aggregate-questions
-slice-aggregate-questions c = sym (length-take-le _ _ (omega (
-  arith,
-  rows-in _ _ (counted
-      (c .before .before .before .before)) .0,
-  c .before .before .set-rows .kept .0,
-)))
+slice-aggregate-questions c =
+    let r = rows-in _ _ (counted (c .before .before .before .before)) in
+    sym (length-take-le _ _ (omega (arith, r .0, c .before .before .set-rows .kept .0)))
 
 questions-requires : tie.Need-questions-requires
-questions-requires c κs = (
-  c .before .before .before .before .before .before .before .before .before .before .before .pre .0,
-  (
-    rw (c .before .before .set-rows .ensures) (held _ _ (counted (c .before .before .before .before)) _ (λ i. omega
-        (arith, c .before .before .before .before .before .before .before .before .before .shared-slice-known2 .given i))),
-    counted
-        (c .before .before .before .before),
-  ),
-)
+questions-requires c κs =
+    let e = counted (c .before .before .before .before) in
+    let known = c .before .before .before .before .before .before .before .before .before .shared-slice-known2 in
+    let sound = c .before .before .before .before .before .before .before .before .before .before .before .pre .0 in
+    (sound, (rw (c .before .before .set-rows .ensures) (held _ _ e _ (λ i. omega (arith, known .given i))), e))
 
 returns-3 : tie.Need-returns-3
 returns-3 c = sym (judge-refused _ _ _ _ _ (sym (c .before .before .before .before .before .pre .1) ∙ ap readOf (c .before .p .given .1)))
