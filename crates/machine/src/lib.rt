@@ -7,7 +7,7 @@ ghost use mathlib.Core.Bool.{true};
 ghost use Prim.Native.Nat.{ℕ, _+_, _*_, _/_, _%_, _<_, _≤_};
 ghost use lib.ListN.{length, getD};
 ghost use Rattle.rules.specs.Search.{walk};
-ghost use Rattle.rules.specs.Machine.{Machine, lent, ask};
+ghost use Rattle.rules.specs.Machine.{Machine, lent, lastFrom, ask};
 ghost use Rattle.machine.specs.Lent.{nextBelow, lettersBelow, link, lentCheck, Steps, Sound};
 ghost use Rattle.machine.specs.Lent as lents;
 ghost use Rattle.machine.specs.Answers.{checked, answered};
@@ -151,13 +151,13 @@ pub fn check(words: &[u16], n: usize, k: usize) -> Checked
     }
 }
 
-// The last output of a word that is run from the start, 0 for the empty word.
-pub fn last_output(words: &[u16], n: usize, k: usize, w: &[u8]) -> u8
+// The last output of a word that is run from `state`, 0 for the empty word.
+pub fn last_from(words: &[u16], n: usize, k: usize, state: usize, w: &[u8]) -> u8
     requires { ⌜ Sound n k (now words) ⌝ }
-    requires { ⌜ lettersBelow k (now w) ≡ true ⌝ }
-    ensures { λ r. ⌜ r ≡ ask (link n k (now (words .entry))) (now (w .entry)) ⌝ }
+    requires { ⌜ (state < n) × (lettersBelow k (now w) ≡ true) ⌝ }
+    ensures { λ r. ⌜ r ≡ lastFrom (link n k (now (words .entry))) 0 state (now (w .entry)) ⌝ }
 {
-    let mut state: usize = 0;
+    let mut state = state;
     let mut output: u8 = 0;
     let mut at: usize = 0;
     while at < w.len() {
@@ -168,6 +168,15 @@ pub fn last_output(words: &[u16], n: usize, k: usize, w: &[u8]) -> u8
         at += 1;
     }
     output
+}
+
+// The last output of a word that is run from the start.
+pub fn last_output(words: &[u16], n: usize, k: usize, w: &[u8]) -> u8
+    requires { ⌜ Sound n k (now words) ⌝ }
+    requires { ⌜ lettersBelow k (now w) ≡ true ⌝ }
+    ensures { λ r. ⌜ r ≡ ask (link n k (now (words .entry))) (now (w .entry)) ⌝ }
+{
+    last_from(words, n, k, 0, w)
 }
 
 // A question: machine, then 6 for the empty word or a letter not below k. Its answer is the last output.

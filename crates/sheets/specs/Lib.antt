@@ -14,6 +14,9 @@ pub mod ProofAnswers
 pub mod Places
 pub mod ProofLaws
 pub mod Checker
+pub mod Held
+pub mod CheckerSteps
+pub mod CheckerAnswers
 pub mod Cases
 pub mod ProofCases
 pub mod Seen

@@ -1,4 +1,5 @@
 // Sheets and the checker.
+pub mod checker;
 pub mod machines;
 pub mod proofs;
 pub mod reading;

@@ -92,7 +92,7 @@ fn set_pairs(area: &mut [u16], from: usize, bytes: &[u8], at: usize, k: usize)
 }
 
 // The words of `rows` rows.
-fn set_rows(area: &mut [u16], bytes: &[u8], at: usize, k: usize, rows: usize)
+pub fn set_rows(area: &mut [u16], bytes: &[u8], at: usize, k: usize, rows: usize)
     requires { ⌜ rows * k ≤ length (now area) ⌝ }
     requires { ⌜ at + rows * (2 + 2 * k) ≤ length (now bytes) ⌝ }
     ensures { λ _. ⌜ now (area .exit) ≡ put 0 (rowWords k rows (drop at (now (bytes .entry)))) (now (area .entry)) ⌝ }
