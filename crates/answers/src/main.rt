@@ -20,6 +20,7 @@
 //     5 question          n, k      -                  words, and the word  the output
 //     6 learns            n, k,     bytes, up to       words, up to 600     states, rounds, cells, bytes written
 //                         L, R      36000 and 10000
+//     7 checks            n, k      -                  words, and a sheet   -
 //
 // An answer is
 //     its kind          1 byte: 0 refused, 1 answered; from the learner 1 for Done and 2 for Open
@@ -37,11 +38,13 @@ mod areas;
 
 use learning::Learnt;
 use machine::Answered;
+use machine::Checked;
 use machine::refusal;
 use machine::refusal::Refusal;
 use machines::MachineRead;
 use machines::MachineWritten;
 use proofs::ProofRead;
+use sheets::checker;
 use sheets::machines;
 use sheets::proofs;
 
@@ -122,6 +125,13 @@ fn question(words: &[u16], n: usize, k: usize, word: &[u8]) -> bool {
     }
 }
 
+fn check(words: &[u16], n: usize, k: usize, sheet: &[u8]) -> bool {
+    match checker::check(words, n, k, sheet) {
+        Checked::Sound => say(1, 0, 0, 0, 0),
+        Checked::Refused(r) => say_refused(r),
+    }
+}
+
 // Learning, into two areas that are lent as their parts of the buffers.
 fn learn_into(
     words: &[u16],
@@ -189,6 +199,7 @@ fn answer_words(head: &[u8; 18], bytes: &[u8], second: &[u8], words: &mut [u16])
         2 => write_machine(words, n, k, head[1], areas::number(head[10], head[11])),
         5 => question(words, n, k, second),
         6 => learn(words, n, k, head),
+        7 => check(words, n, k, second),
         _ => false,
     }
 }
