@@ -17,7 +17,7 @@ pub fn put_mark(area: &mut [u8], at: usize, mark: &[u8; 2])
 }
 
 // The pair (output, next) of a word.
-pub fn put_pair(area: &mut [u8], at: usize, word: u16)
+fn put_pair(area: &mut [u8], at: usize, word: u16)
     requires { ⌜ at + 2 ≤ length (now area) ⌝ }
     ensures { λ _. ⌜ now (area .exit) ≡ put at (pair word) (now (area .entry)) ⌝ }
 {
@@ -26,7 +26,7 @@ pub fn put_pair(area: &mut [u8], at: usize, word: u16)
 }
 
 // The pairs of `k` words, from the word `from` on.
-pub fn put_pairs(area: &mut [u8], at: usize, words: &[u16], from: usize, k: usize)
+fn put_pairs(area: &mut [u8], at: usize, words: &[u16], from: usize, k: usize)
     requires { ⌜ from + k ≤ length (now words) ⌝ }
     requires { ⌜ at + 2 * k ≤ length (now area) ⌝ }
     ensures { λ _. ⌜ now (area .exit) ≡ put at (pairBytes (take k (drop from (now (words .entry))))) (now (area .entry)) ⌝ }
@@ -39,7 +39,7 @@ pub fn put_pairs(area: &mut [u8], at: usize, words: &[u16], from: usize, k: usiz
 }
 
 // One row: MR with the pairs of `k` words, from the word `from` on.
-pub fn put_row(area: &mut [u8], at: usize, words: &[u16], from: usize, k: usize)
+fn put_row(area: &mut [u8], at: usize, words: &[u16], from: usize, k: usize)
     requires { ⌜ from + k ≤ length (now words) ⌝ }
     requires { ⌜ at + (2 + 2 * k) ≤ length (now area) ⌝ }
     ensures { λ _. ⌜ now (area .exit) ≡ put at (rowOf k (drop from (now (words .entry)))) (now (area .entry)) ⌝ }

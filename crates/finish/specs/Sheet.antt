@@ -23,7 +23,8 @@ use Rattle.rules.specs.SheetLaws.{rows-length, room}
 use Rattle.rules.specs.Records.{words-few, words-more-length, put-words-more}
 use Rattle.rules.specs.Numbering.{place, reached, order, reachingWords, renumbered, modelState, stateMap}
 use Rattle.rules.specs.NumberingLaws.{letters, order-length}
-use Rattle.rules.specs.SameNumbering.{Agrees, order-few, order-low, words-same, states-same, renumbered-same, stateMap-same}
+use Rattle.rules.specs.Same.{Same}
+use Rattle.rules.specs.SameNumbering.{order-few, order-low, words-same, states-same, renumbered-same, stateMap-same}
 use Rattle.machine.specs.Lent.{link, Steps}
 use Rattle.machine.specs.LentLaws.{steps-complete}
 use Rattle.areas.specs.Store.{slot, stored, Slots, Kept, stored-length, stored-at, stored-more, slot-length}
@@ -45,7 +46,7 @@ numberedSheet k M C E = record {
 }
 
 -- it depends on the model at its states and letters alone
-pub sheet-same : (k : ℕ) (M C K : Machine) (E : List Word) → 0 < k → Complete k M → Complete k C → Agrees k C K → numberedSheet k M C E ≡ numberedSheet k M K E
+pub sheet-same : (k : ℕ) (M C K : Machine) (E : List Word) → 0 < k → Complete k M → Complete k C → Same k K C → numberedSheet k M C E ≡ numberedSheet k M K E
 unfolding numberedSheet
 sheet-same k M C K E pos wholeM whole A =
     ap₂ (λ (m : ℕ) (model : List ℕ). sheet m model (reachingWords k C) (stateMap k M C)) (states-same k C K whole A) (renumbered-same k C K whole A 256 pos)

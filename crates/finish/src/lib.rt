@@ -16,7 +16,7 @@ use areas::records;
 use areas::store;
 
 // The place of `x` among the first `count` numbers; `count` where it is not there.
-pub fn place(order: &[usize; 48], count: usize, x: usize) -> usize
+fn place(order: &[usize; 48], count: usize, x: usize) -> usize
     requires { ⌜ (count ≤ 48) × (length (now order) ≡ 48) ⌝ }
     ensures { λ r. ⌜ r ≡ numbering.place (take count (now (order .entry))) x ⌝ }
 {
@@ -31,7 +31,7 @@ pub fn place(order: &[usize; 48], count: usize, x: usize) -> usize
 }
 
 // The numbered model's word of state i / k and letter i % k.
-pub fn numbered_word(
+fn numbered_word(
     model: &[u16],
     m: usize,
     k: usize,
@@ -50,7 +50,7 @@ pub fn numbered_word(
 }
 
 // The model's words with its states numbered by `order` are put to the start of `numbered`.
-pub fn renumber(
+fn renumber(
     model: &[u16],
     m: usize,
     k: usize,
@@ -71,7 +71,7 @@ pub fn renumber(
 }
 
 // The record of the word in slot `j`: its mark, its length and its letters. Answers where it ends.
-pub fn put_record(
+fn put_record(
     sheet: &mut [u8],
     at: usize,
     mark: &[u8; 2],
@@ -90,7 +90,7 @@ pub fn put_record(
 }
 
 // The records of the first `count` words, one after the other. Answers where they end.
-pub fn put_records(
+fn put_records(
     sheet: &mut [u8],
     at: usize,
     mark: &[u8; 2],
@@ -113,7 +113,7 @@ pub fn put_records(
 }
 
 // The state that the word in slot `j` leads to.
-pub fn slot_state(model: &[u16], m: usize, k: usize, store: &[u8], count: usize, j: usize) -> usize
+fn slot_state(model: &[u16], m: usize, k: usize, store: &[u8], count: usize, j: usize) -> usize
     requires { ⌜ Steps m k (now model) ⌝ }
     requires { ⌜ Kept 48 k (now store) count × (j < count) ⌝ }
     ensures { λ r. ⌜ r ≡ walk (link m k (now (model .entry)) .next) 0 (slot 48 (now (store .entry)) j) ⌝ }
@@ -126,7 +126,7 @@ pub fn slot_state(model: &[u16], m: usize, k: usize, store: &[u8], count: usize,
 }
 
 // The model state of the machine state `state`, or 255: `states` lists the machine's states, `reach` has their words.
-pub fn map_state(
+fn map_state(
     model: &[u16],
     m: usize,
     k: usize,
@@ -151,7 +151,7 @@ pub fn map_state(
 }
 
 // The model state of each machine state, or 255, from `at` on.
-pub fn put_map(
+fn put_map(
     sheet: &mut [u8],
     at: usize,
     n: usize,
@@ -177,7 +177,7 @@ pub fn put_map(
 }
 
 // The record of the state map: SM with a byte for each state of the machine. Answers where it ends.
-pub fn put_state_map(
+fn put_state_map(
     sheet: &mut [u8],
     at: usize,
     words: &[u16],
@@ -215,7 +215,7 @@ pub fn put_state_map(
 }
 
 // The model's rows, its states numbered by `order`. Answers where they end.
-pub fn put_model(
+fn put_model(
     sheet: &mut [u8],
     at: usize,
     model: &[u16],
@@ -237,7 +237,7 @@ pub fn put_model(
 }
 
 // The head: PH, m, k, n and c.
-pub fn put_head(sheet: &mut [u8], m: usize, k: usize, n: usize, c: usize)
+fn put_head(sheet: &mut [u8], m: usize, k: usize, n: usize, c: usize)
     requires { ⌜ (m < 256) × (k < 256) × (n < 256) × (c < 256) ⌝ }
     requires { ⌜ 6 ≤ length (now sheet) ⌝ }
     ensures { λ _. ⌜ now (sheet .exit) ≡ put 0 (PH ++ (m ∷ k ∷ n ∷ c ∷ [])) (now (sheet .entry)) ⌝ }

@@ -18,30 +18,21 @@ learnt (answer.Refused r) = refused (number r)
 clash : _≡_ {A = ℕ} 0 1 → ⊥
 clash z = omega arith
 
+-- the four counts
+counted : ℕ → ℕ → ℕ → ℕ → Counts
+counted a b c d = record { states = a; rounds = b; cells = c; bytes = d }
+
+four : {A : Type 0} (make : ℕ → ℕ → ℕ → ℕ → A) {a b c d a′ b′ c′ d′ : ℕ} → counted a b c d ≡ counted a′ b′ c′ d′ → make a b c d ≡ make a′ b′ c′ d′
+unfolding counted
+four make e = ap (λ (x : Counts). make (x .states) (x .rounds) (x .cells) (x .bytes)) e
+
 learnt-fixed : (x y : Learnt) → learnt x ≡ learnt y → x ≡ y
-learnt-fixed (answer.Done a b c d) (answer.Done a′ b′ c′ d′) e =
-    let r : _≡_ {A = Counts} (record { states = a; rounds = b; cells = c; bytes = d }) (record { states = a′; rounds = b′; cells = c′; bytes = d′ }) = counts e in
-    let s : a ≡ a′ = ap (λ (x : Counts). x .states) r in
-    let t : b ≡ b′ = ap (λ (x : Counts). x .rounds) r in
-    let u : c ≡ c′ = ap (λ (x : Counts). x .cells) r in
-    let v : d ≡ d′ = ap (λ (x : Counts). x .bytes) r in
-    cc
-  where
-    counts : {x y : Counts} → _≡_ {A = Answer learner.Learnt} (gives (done x)) (gives (done y)) → x ≡ y
-    counts e = cc
+unfolding counted
+learnt-fixed (answer.Done a b c d) (answer.Done a′ b′ c′ d′) e = let r : counted a b c d ≡ counted a′ b′ c′ d′ = cc in four answer.Done r
 learnt-fixed (answer.Done a b c d) (answer.Open a′ b′ c′ d′) e = let z : _≡_ {A = ℕ} 0 1 = cc in absurd (clash z)
 learnt-fixed (answer.Done a b c d) (answer.Refused r) e = let z : _≡_ {A = ℕ} 0 1 = cc in absurd (clash z)
 learnt-fixed (answer.Open a b c d) (answer.Done a′ b′ c′ d′) e = let z : _≡_ {A = ℕ} 0 1 = cc in absurd (clash z)
-learnt-fixed (answer.Open a b c d) (answer.Open a′ b′ c′ d′) e =
-    let r : _≡_ {A = Counts} (record { states = a; rounds = b; cells = c; bytes = d }) (record { states = a′; rounds = b′; cells = c′; bytes = d′ }) = counts e in
-    let s : a ≡ a′ = ap (λ (x : Counts). x .states) r in
-    let t : b ≡ b′ = ap (λ (x : Counts). x .rounds) r in
-    let u : c ≡ c′ = ap (λ (x : Counts). x .cells) r in
-    let v : d ≡ d′ = ap (λ (x : Counts). x .bytes) r in
-    cc
-  where
-    counts : {x y : Counts} → _≡_ {A = Answer learner.Learnt} (gives (unfinished x)) (gives (unfinished y)) → x ≡ y
-    counts e = cc
+learnt-fixed (answer.Open a b c d) (answer.Open a′ b′ c′ d′) e = let r : counted a b c d ≡ counted a′ b′ c′ d′ = cc in four answer.Open r
 learnt-fixed (answer.Open a b c d) (answer.Refused r) e = let z : _≡_ {A = ℕ} 0 1 = cc in absurd (clash z)
 learnt-fixed (answer.Refused r) (answer.Done a b c d) e = let z : _≡_ {A = ℕ} 0 1 = cc in absurd (clash z)
 learnt-fixed (answer.Refused r) (answer.Open a b c d) e = let z : _≡_ {A = ℕ} 0 1 = cc in absurd (clash z)

@@ -16,7 +16,7 @@ use Rattle.rules.specs.Rounds.{Stop, cellCount}
 use Rattle.rules.specs.Links.{stopped}
 use Rattle.rules.specs.Sheets.{Proof, proofBytes, wordBytes, CX}
 use Rattle.rules.specs.Records.{word-length}
-use Rattle.rules.specs.SameNumbering.{Agrees}
+use Rattle.rules.specs.Same.{Same}
 use Rattle.machine.specs.Lent.{link}
 use Rattle.machine.specs.LentLaws.{sound-steps, steps-complete}
 use Rattle.learning.specs.Learner.{Counts, Learnt, done, unfinished, Left, finished, tableBytes, tableByte, counts, stopLeaves, learnCheck, learnLeaves, learn}
@@ -40,7 +40,7 @@ parts : {a b : Answer Learnt} {t t′ s s′ : List ℕ} → a ≡ b → t ≡ t
 parts {a} {b} {t} {t′} {s} {s′} e f g = ap₂ (λ (x : Answer Learnt) (y : List ℕ). left-by x y s) e f ∙ ap (left-by b t′) g
 
 -- the sheet is the learner's where the lent words are the conjecture
-finished-is : (k : ℕ) (M C : Machine) (x : Stop) (E S : List Word) → 0 < k → Complete k M → Complete k C → x .E ≡ E → x .S ≡ S → Agrees k C (conjecture (ask M) E S)
+finished-is : (k : ℕ) (M C : Machine) (x : Stop) (E S : List Word) → 0 < k → Complete k M → Complete k C → x .E ≡ E → x .S ≡ S → Same k (conjecture (ask M) E S) C
     → numberedSheet k M C E ≡ finished k M x
 unfolding finished
 finished-is k M C x E S pos wholeM whole columns words A =
@@ -97,20 +97,12 @@ module _ {n k : ℕ} {words : List ℕ} {p : ℕ} {s rows : List ℕ} {m : ℕ} 
       parts (ap (λ (c : Counts). gives (unfinished c)) (counts-are (wordBytes CX (take left found)) b e)) table-left put
       ∙ sym (leaves-open k (link n k words) L (stopped k (link n k words) p) table sheet (take left found) (omega (arith, size)) (O .some′))
 
-  -- the model at hand is the conjecture
-  agrees : Agrees k (link m k model) (conjecture (ask (link n k words)) (columnsIn columns (k + p)) (wordsIn s m))
-  agrees = let same = T .modelled .same in record {
-    states = same .states;
-    next = λ i a h ha. same .next i a (subst (λ (j : ℕ). i < j) (same .states) h) ha;
-    out = λ i a h ha. same .out i a (subst (λ (j : ℕ). i < j) (same .states) h) ha;
-  }
-
   pub leave-done : m ≤ L → left ≡ 0 → (b : ℕ) (sheet′ : List ℕ) → b ≡ length (proofBytes (numberedSheet k (link n k words) (link m k model) (columnsIn columns (k + p))))
       → sheet′ ≡ put 0 (proofBytes (numberedSheet k (link n k words) (link m k model) (columnsIn columns (k + p)))) sheet
       → left-by (gives (done (counted m p ((1 + m * k) * (k + p)) b))) table sheet′ ≡ stopLeaves k (link n k words) L (stopped k (link n k words) p) table sheet
   leave-done h none b sheet′ is written =
       let f = finished-is k (link n k words) (link m k model) (stopped k (link n k words) p) (columnsIn columns (k + p)) (wordsIn s m) (T .desk .sound .k-low)
-      (steps-complete (sound-steps (T .desk .sound))) (steps-complete (T .modelled .steps)) (sym (T .E-is)) (sym (T .S-is)) agrees in
+      (steps-complete (sound-steps (T .desk .sound))) (steps-complete (T .modelled .steps)) (sym (T .E-is)) (sym (T .S-is)) (T .modelled .same) in
       let e : b ≡ length (proofBytes (finished k (link n k words) (stopped k (link n k words) p))) = is ∙ ap (λ (P : Proof). length (proofBytes P)) f in
       let w : sheet′ ≡ over (proofBytes (finished k (link n k words) (stopped k (link n k words) p))) sheet =
       written ∙ ap (λ (P : Proof). put 0 (proofBytes P) sheet) f ∙ put-start (proofBytes (finished k (link n k words) (stopped k (link n k words) p))) sheet in

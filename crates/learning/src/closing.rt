@@ -14,7 +14,7 @@ ghost use Rattle.learning.specs.Grid.{Beyond, guessIn};
 use areas::store;
 
 // The word of row `r` becomes the word `m` of S, and the rows of its letters are filled.
-pub fn append_row(
+pub(crate) fn append_row(
     words: &[u16],
     n: usize,
     k: usize,
@@ -55,7 +55,7 @@ pub fn append_row(
 
 // Rule 3: the words of open rows are appended to S until there is none. Answers the number of words. A row that has its word in S keeps
 // it, so each search goes on from the row found last.
-pub fn close(
+pub(crate) fn close(
     words: &[u16],
     n: usize,
     k: usize,
@@ -87,7 +87,14 @@ pub fn close(
 }
 
 // Rule 4: the conjecture as lent words, in S's order, is put to the start of `model`.
-pub fn conjecture(table: &[u8], rows: &[usize; 48], m: usize, k: usize, c: usize, model: &mut [u16])
+pub(crate) fn conjecture(
+    table: &[u8],
+    rows: &[usize; 48],
+    m: usize,
+    k: usize,
+    c: usize,
+    model: &mut [u16],
+)
     requires { ⌜ (m ≤ 48) × (1 ≤ k) × (k ≤ c) × (c ≤ 59) × (m * k ≤ length (now model)) × ((1 + m * k) * 59 ≤ length (now table)) ⌝ }
     requires { ⌜ ((j : ℕ) → j < m → getD (now rows) j 0 * 59 + 59 ≤ length (now table)) ⌝ }
     ensures { λ _. ⌜ now (model .exit) ≡ put 0 (map (guessIn 59 (now (table .entry)) (now (rows .entry)) m k c) (from 0 (m * k))) (now (model .entry)) ⌝ }

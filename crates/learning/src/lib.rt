@@ -16,9 +16,9 @@ ghost use Rattle.learning.specs.Answers.{learnt};
 ghost use Rattle.learning.specs.Turns.{Turn};
 ghost use Rattle.learning.specs.Leaving.{left-by};
 
-pub mod closing;
-pub mod rounds;
-pub mod table;
+mod closing;
+mod rounds;
+mod table;
 
 use areas::records;
 use areas::store;
@@ -66,10 +66,7 @@ fn learn_check(
 ) -> Checked
     ensures { λ r. ⌜ checked r ≡ learnCheck n k (now (words .entry)) limit most (now (table .entry)) (now (sheet .entry)) ⌝ }
 {
-    if limit < 1 {
-        return Checked::Refused(Refusal::BadLimit);
-    }
-    if 48 < limit {
+    if !machine::within(1, 48, limit) {
         return Checked::Refused(Refusal::BadLimit);
     }
     if 47 < most {

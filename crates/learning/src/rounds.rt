@@ -24,7 +24,7 @@ use areas::store;
 use areas::store::copy_word;
 
 // The answer to `w` with its first `i` letters replaced by the word of S for `state`.
-pub fn swapped(
+pub(crate) fn swapped(
     words: &[u16],
     n: usize,
     k: usize,
@@ -46,7 +46,7 @@ pub fn swapped(
 }
 
 // Rule 6: the least i for which the answers at i and i + 1 differ. The conjecture is lent as words.
-pub fn cut(
+pub(crate) fn cut(
     words: &[u16],
     n: usize,
     k: usize,
@@ -77,7 +77,7 @@ pub fn cut(
 }
 
 // One round with the counterexample `w`: its suffix is added as the last column, and the table is closed. Answers the number of words.
-pub fn round(
+pub(crate) fn round(
     words: &[u16],
     n: usize,
     k: usize,
@@ -118,7 +118,7 @@ pub fn round(
 }
 
 // Rule 1: the columns are at first the one-letter words, in order.
-pub fn one_letter(columns: &mut [u8], k: usize)
+pub(crate) fn one_letter(columns: &mut [u8], k: usize)
     requires { ⌜ (k ≤ 12) × (5546 ≤ length (now columns)) ⌝ }
     ensures { λ _. ⌜ Ones k (now (columns .exit)) k ⌝ }
 {
@@ -131,7 +131,7 @@ pub fn one_letter(columns: &mut [u8], k: usize)
 }
 
 // The first table, closed: S is the empty word, and the area's table is all zero. Answers the number of words.
-pub fn begin(
+pub(crate) fn begin(
     words: &[u16],
     n: usize,
     k: usize,
@@ -159,7 +159,7 @@ pub fn begin(
 
 // Rules 4 and 5 at a closed table: the conjecture is put to the start of `model`, and the counterexample to the start of `found`. Answers its
 // length, 0 where there is none.
-pub fn conclude(
+pub(crate) fn conclude(
     words: &[u16],
     n: usize,
     k: usize,
@@ -183,14 +183,14 @@ pub fn conclude(
 }
 
 // Where the rounds stop: the words of S, the rounds past, and the letters of the counterexample that is left, 0 where there is none.
-pub struct Stop {
-    pub words: usize,
-    pub past: usize,
-    pub left: usize,
+pub(crate) struct Stop {
+    pub(crate) words: usize,
+    pub(crate) past: usize,
+    pub(crate) left: usize,
 }
 
 // Rounds until no counterexample exists or `most` are past. The area's table is all zero at first.
-pub fn rounds(
+pub(crate) fn rounds(
     words: &[u16],
     n: usize,
     k: usize,

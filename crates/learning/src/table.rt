@@ -16,7 +16,7 @@ ghost use Rattle.rules.specs.Tests.{eqs};
 use areas::store::copy_word;
 
 // The word of row `r` is put to the start of `word`: empty for row 0, and else a word of S and a letter. Answers its length.
-pub fn row_word(s: &[u8], m: usize, k: usize, r: usize, word: &mut [u8]) -> usize
+pub(crate) fn row_word(s: &[u8], m: usize, k: usize, r: usize, word: &mut [u8]) -> usize
     requires { ⌜ Kept 48 k (now s) m ⌝ }
     requires { ⌜ (1 ≤ k) × (k ≤ 12) × (r < 1 + m * k) × (48 ≤ length (now word)) ⌝ }
     ensures { λ x. ⌜ (x ≡ length (row k (stored 48 (now (s .entry)) m) r)) × (now (word .exit) ≡ put 0 (row k (stored 48 (now (s .entry)) m) r) (now (word .entry))) ⌝ }
@@ -31,7 +31,7 @@ pub fn row_word(s: &[u8], m: usize, k: usize, r: usize, word: &mut [u8]) -> usiz
 }
 
 // The answer to the first `len` letters of `word` followed by the column `c`. These letters stay.
-pub fn ask_column(
+pub(crate) fn ask_column(
     words: &[u16],
     n: usize,
     k: usize,
@@ -51,7 +51,7 @@ pub fn ask_column(
 }
 
 // The cells of one row, of the columns `from` up to `to`. It knows no row number.
-pub fn fill_row(
+pub(crate) fn fill_row(
     row: &mut [u8],
     words: &[u16],
     n: usize,
@@ -75,7 +75,7 @@ pub fn fill_row(
 }
 
 // The cells of the rows `first` up to `last`, of the columns `from` up to `to`: one row after the other is lent on from its place.
-pub fn fill_rows(
+pub(crate) fn fill_rows(
     table: &mut [u8],
     words: &[u16],
     n: usize,
@@ -113,7 +113,7 @@ pub fn fill_rows(
 }
 
 // Whether two rows have the same cells in the first `c` columns.
-pub fn same_cells(table: &[u8], r: usize, q: usize, c: usize) -> bool
+pub(crate) fn same_cells(table: &[u8], r: usize, q: usize, c: usize) -> bool
     requires { ⌜ (r * 59 + c ≤ length (now table)) × (q * 59 + c ≤ length (now table)) ⌝ }
     ensures { λ x. ⌜ x ≡ eqs (rowCells 59 (now (table .entry)) c r) (rowCells 59 (now (table .entry)) c q) ⌝ }
 {
@@ -123,7 +123,7 @@ pub fn same_cells(table: &[u8], r: usize, q: usize, c: usize) -> bool
 }
 
 // The place in S of the word with the cells of row `r`; `m` where there is none.
-pub fn state_of(table: &[u8], rows: &[usize; 48], m: usize, c: usize, r: usize) -> usize
+pub(crate) fn state_of(table: &[u8], rows: &[usize; 48], m: usize, c: usize, r: usize) -> usize
     requires { ⌜ (m ≤ 48) × (r * 59 + c ≤ length (now table)) ⌝ }
     requires { ⌜ ((j : ℕ) → j < m → getD (now rows) j 0 * 59 + c ≤ length (now table)) ⌝ }
     ensures { λ x. ⌜ x ≡ stateIn 59 (now (table .entry)) (now (rows .entry)) m c r ⌝ }
@@ -139,7 +139,7 @@ pub fn state_of(table: &[u8], rows: &[usize; 48], m: usize, c: usize, r: usize) 
 }
 
 // The first of the rows from `from` on whose cells are those of no word in S; `last` where there is none.
-pub fn open_row(
+pub(crate) fn open_row(
     table: &[u8],
     rows: &[usize; 48],
     m: usize,

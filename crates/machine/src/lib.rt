@@ -8,6 +8,7 @@ ghost use Prim.Native.Nat.{ℕ, _+_, _*_, _/_, _%_, _<_, _≤_};
 ghost use lib.ListN.{length, getD};
 ghost use Rattle.rules.specs.Search.{walk};
 ghost use Rattle.rules.specs.Machine.{Machine, lent, lastFrom, ask};
+ghost use Rattle.rules.specs.Answer as rules;
 ghost use Rattle.machine.specs.Lent.{nextBelow, lettersBelow, link, lentCheck, Steps, Sound};
 ghost use Rattle.machine.specs.Lent as lents;
 ghost use Rattle.machine.specs.Answers.{checked, answered};
@@ -121,20 +122,24 @@ pub fn letters_below(w: &[u8], k: usize) -> bool
     true
 }
 
+// Whether `x` is from `low` to `high`.
+pub fn within(low: usize, high: usize, x: usize) -> bool
+    ensures { λ r. ⌜ r ≡ rules.within low high x ⌝ }
+{
+    if x < low {
+        return false;
+    }
+    x <= high
+}
+
 // Lent words: 3, then 1 or 5, then 4.
 pub fn check(words: &[u16], n: usize, k: usize) -> Checked
     ensures { λ r. ⌜ checked r ≡ lentCheck n k (now (words .entry)) ⌝ }
 {
-    if n < 1 {
+    if !within(1, 48, n) {
         return Checked::Refused(Refusal::OutOfRange);
     }
-    if 48 < n {
-        return Checked::Refused(Refusal::OutOfRange);
-    }
-    if k < 1 {
-        return Checked::Refused(Refusal::OutOfRange);
-    }
-    if 12 < k {
+    if !within(1, 12, k) {
         return Checked::Refused(Refusal::OutOfRange);
     }
     let size = n * k;

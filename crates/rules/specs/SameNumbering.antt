@@ -1,6 +1,6 @@
 -- The numbering by least words depends on a machine at its states and letters alone: two machines that agree there have the same states in
 -- the same order, by the same words, the same machine numbered anew, and the same state map.
-use mathlib.Core.Path.{_≡_, refl, sym, ap, ap₂, _∙_}
+use mathlib.Core.Path.{_≡_, refl, sym, ap, ap₂, _∙_, subst}
 use mathlib.Core.Logic.{inl, inr}
 use mathlib.Core.Bool.{Bool, true, false}
 use mathlib.Core.List.{List, [], _∷_, _++_, map}
@@ -18,14 +18,9 @@ use Rattle.rules.specs.MachineLaws.{walk-low}
 use Rattle.rules.specs.Table.{from}
 use Rattle.rules.specs.FromLaws.{map-from-same}
 use Rattle.rules.specs.Sheets.{wordsOf}
+use Rattle.rules.specs.Same.{Same}
 use Rattle.rules.specs.Numbering.{place, reached, order, reachingWords, renumbered, modelState, stateMap}
 use Rattle.rules.specs.NumberingLaws.{reached-explored, order-length, leads, letters}
-
--- M and N have the same states and agree at each of them and each letter
-pub record Agrees (k : ℕ) (M N : Machine) : Type 0 where
-  pub states : M .states ≡ N .states
-  pub next : (s a : ℕ) → s < M .states → a < k → M .next s a ≡ N .next s a
-  pub out : (s a : ℕ) → s < M .states → a < k → M .out s a ≡ N .out s a
 
 -- ---- the states listed
 module _ (k : ℕ) (M : Machine) (whole : Complete k M) where
@@ -117,11 +112,20 @@ module _ (step other : ℕ → ℕ → ℕ) (x0 k n : ℕ) (stays : (s a : ℕ) 
   explore-same h = exploreFrom-same n 0 (starts x0 ∷ []) (h, tt)
 
 -- ---- what is made of a machine
-module _ (k : ℕ) (M N : Machine) (whole : Complete k M) (A : Agrees k M N) where
+-- ---- two machines that agree
+-- at the states of either
+module _ {k : ℕ} {M N : Machine} (A : Same k N M) where
+  next-at : (s a : ℕ) → s < M .states → a < k → M .next s a ≡ N .next s a
+  next-at s a h = A .next s a (subst (λ (n : ℕ). s < n) (A .states) h)
+
+  out-at : (s a : ℕ) → s < M .states → a < k → M .out s a ≡ N .out s a
+  out-at s a h = A .out s a (subst (λ (n : ℕ). s < n) (A .states) h)
+
+module _ (k : ℕ) (M N : Machine) (whole : Complete k M) (A : Same k N M) where
   pub reached-same : reached k M ≡ reached k N
   unfolding reached
   reached-same =
-      explore-same (M .next) (N .next) 0 k (M .states) (whole .1) (A .next) (whole .0) ∙ ap (λ (n : ℕ). explore eqb (N .next) 0 k n) (A .states)
+      explore-same (M .next) (N .next) 0 k (M .states) (whole .1) (next-at A) (whole .0) ∙ ap (λ (n : ℕ). explore eqb (N .next) 0 k n) (A .states)
 
   pub order-same : order k M ≡ order k N
   unfolding order
@@ -138,11 +142,11 @@ module _ (k : ℕ) (M N : Machine) (whole : Complete k M) (A : Agrees k M N) whe
   pub next-same : (i a : ℕ) → i < length (order k M) → a < k → renumbered k M .next i a ≡ renumbered k N .next i a
   unfolding renumbered
   next-same i a h l =
-      ap (place (order k M)) (A .next (getD (order k M) i 0) a (order-low k M whole i h) l) ∙ ap (λ (o : List ℕ). place o (N .next (getD o i 0) a)) order-same
+      ap (place (order k M)) (next-at A (getD (order k M) i 0) a (order-low k M whole i h) l) ∙ ap (λ (o : List ℕ). place o (N .next (getD o i 0) a)) order-same
 
   pub out-same : (i a : ℕ) → i < length (order k M) → a < k → renumbered k M .out i a ≡ renumbered k N .out i a
   unfolding renumbered
-  out-same i a h l = A .out (getD (order k M) i 0) a (order-low k M whole i h) l ∙ ap (λ (o : List ℕ). N .out (getD o i 0) a) order-same
+  out-same i a h l = out-at A (getD (order k M) i 0) a (order-low k M whole i h) l ∙ ap (λ (o : List ℕ). N .out (getD o i 0) a) order-same
 
   pub renumbered-same : (B : ℕ) → 0 < k → wordsOf B k (renumbered k M) ≡ wordsOf B k (renumbered k N)
   unfolding wordsOf renumbered
@@ -158,7 +162,7 @@ module _ (k : ℕ) (M N : Machine) (whole : Complete k M) (A : Agrees k M N) whe
           ap₂ (λ (x y : ℕ). B * x + y) (next-same (i / k) (i % k) l (mod-lt i pos)) (out-same (i / k) (i % k) l (mod-lt i pos))
 
 -- the state map of a machine G onto either of them
-module _ (k : ℕ) (G M N : Machine) (wholeG : Complete k G) (whole : Complete k M) (A : Agrees k M N) where
+module _ (k : ℕ) (G M N : Machine) (wholeG : Complete k G) (whole : Complete k M) (A : Same k N M) where
   pub modelState-same : (s : ℕ) → modelState k G M s ≡ modelState k G N s
   unfolding modelState
   modelState-same s = go (ltb (place (order k G) s) (length (order k G))) refl
@@ -168,7 +172,7 @@ module _ (k : ℕ) (G M N : Machine) (wholeG : Complete k G) (whole : Complete k
       go true t =
           let w = getD (reachingWords k G) (place (order k G) s) [] in
           let below = letters k G wholeG (place (order k G) s) (ltb-yes _ _ t) in
-          rw (t, modelState) (ap₂ place (order-same k M N whole A) (walk-same (M .next) (N .next) 0 k (M .states) (whole .1) (A .next) 0 w (whole .0) below))
+          rw (t, modelState) (ap₂ place (order-same k M N whole A) (walk-same (M .next) (N .next) 0 k (M .states) (whole .1) (next-at A) 0 w (whole .0) below))
 
   pub stateMap-same : stateMap k G M ≡ stateMap k G N
   unfolding stateMap

@@ -15,7 +15,7 @@ ghost use Rattle.search.specs.Queue.{wordAt, entryAt, entries, Earlier, 
 ghost use Rattle.search.specs.Listing.{Listed, Numbered, Still};
 ghost use Rattle.search.specs.Pairs.{Beside, firstOf, foundLength, foundPut};
 
-pub fn pair_next(
+fn pair_next(
     words: &[u16],
     n: usize,
     others: &[u16],
@@ -31,7 +31,7 @@ pub fn pair_next(
     machine::next(words, k, x / m, a) * m + machine::next(others, k, x % m, a)
 }
 
-pub fn pair_apart(
+fn pair_apart(
     words: &[u16],
     n: usize,
     others: &[u16],
@@ -48,7 +48,7 @@ pub fn pair_apart(
 }
 
 // The pair `x`, met from place `from` by the letter `a`, joins the queue's end, unless it was met before. Answers the queue's length.
-pub fn meet(
+fn meet(
     queue: &mut [u16; 2304],
     seen: &mut [bool; 2304],
     parent: &mut [u16; 2304],
@@ -74,7 +74,7 @@ pub fn meet(
 }
 
 // How many letters the word of place `p` has, whatever the letters are.
-pub fn depth(parent: &[u16; 2304], p: usize) -> usize
+fn depth(parent: &[u16; 2304], p: usize) -> usize
     requires { ⌜ (p < 2304) × Earlier (now parent) (suc p) ⌝ }
     ensures { λ r. ⌜ ((letter : List ℕ) → r ≡ length (wordAt (now (parent .entry)) letter p)) ⌝ }
 {
@@ -88,13 +88,7 @@ pub fn depth(parent: &[u16; 2304], p: usize) -> usize
 }
 
 // The word of place `p` is put into `into` from `at` on. Answers where it ends.
-pub fn spell(
-    parent: &[u16; 2304],
-    letter: &[u8; 2304],
-    p: usize,
-    into: &mut [u8],
-    at: usize,
-) -> usize
+fn spell(parent: &[u16; 2304], letter: &[u8; 2304], p: usize, into: &mut [u8], at: usize) -> usize
     requires { ⌜ (p < 2304) × Earlier (now parent) (suc p) ⌝ }
     requires { ⌜ at + length (wordAt (now parent) (now letter) p) ≤ length (now into) ⌝ }
     ensures { λ r. ⌜ r ≡ at + length (wordAt (now (parent .entry)) (now (letter .entry)) p) ⌝ }
@@ -112,7 +106,7 @@ pub fn spell(
 }
 
 // Every letter at the place `at`.
-pub fn meet_letters(
+fn meet_letters(
     words: &[u16],
     n: usize,
     others: &[u16],
@@ -143,7 +137,7 @@ pub fn meet_letters(
 }
 
 // All pairs that words reach from the pair `start`, in the order of the least words. Answers how many.
-pub fn explore(
+fn explore(
     words: &[u16],
     n: usize,
     others: &[u16],
@@ -183,7 +177,7 @@ pub fn explore(
 }
 
 // The first place and letter, as place·k + letter, at which the outputs differ; count·k where there is none.
-pub fn first_apart(
+fn first_apart(
     words: &[u16],
     n: usize,
     others: &[u16],
@@ -208,7 +202,7 @@ pub fn first_apart(
 
 // The least word that the state `s` of the first machine and `t` of the second answer differently is put to the start of `into`. Answers its
 // length, 0 where there is none. The arrays have no place marked yet.
-pub fn differ(
+fn differ(
     words: &[u16],
     n: usize,
     others: &[u16],
@@ -284,7 +278,7 @@ pub fn difference(
 }
 
 // The word of place `p` is put into slot `p` of `reach`.
-pub fn spell_slot(parent: &[u16; 2304], letter: &[u8; 2304], p: usize, reach: &mut [u8])
+fn spell_slot(parent: &[u16; 2304], letter: &[u8; 2304], p: usize, reach: &mut [u8])
     requires { ⌜ (p < 48) × Earlier (now parent) (suc p) × (2304 ≤ length (now reach)) ⌝ }
     ensures { λ _. ⌜ now (reach .exit) ≡ put (p * 48) (length (wordAt (now (parent .entry)) (now (letter .entry)) p) ∷ wordAt (now (parent .entry)) (now (letter .entry)) p) (now (reach .entry)) ⌝ }
 {
@@ -294,7 +288,7 @@ pub fn spell_slot(parent: &[u16; 2304], letter: &[u8; 2304], p: usize, reach: &m
 }
 
 // The states of the first `count` places are listed in `order`, and their words in the slots of `reach`.
-pub fn list_states(
+fn list_states(
     queue: &[u16; 2304],
     parent: &[u16; 2304],
     letter: &[u8; 2304],
@@ -315,7 +309,7 @@ pub fn list_states(
 }
 
 // A machine beside one that stays in its single state: the pairs are its states. The arrays have no place marked yet.
-pub fn number_beside(
+fn number_beside(
     words: &[u16],
     n: usize,
     alone: &[u16],

@@ -2,4 +2,4 @@
 pub mod checker;
 pub mod machines;
 pub mod proofs;
-pub mod reading;
+mod reading;

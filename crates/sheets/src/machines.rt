@@ -34,16 +34,10 @@ fn body_check(bytes: &[u8], n: usize, k: usize) -> Checked
     requires { ⌜ 4 ≤ length (now bytes) ⌝ }
     ensures { λ r. ⌜ checked r ≡ outcome (sheetBody n k (drop 4 (now (bytes .entry)))) ⌝ }
 {
-    if n < 1 {
+    if !machine::within(1, 48, n) {
         return Checked::Refused(Refusal::OutOfRange);
     }
-    if 48 < n {
-        return Checked::Refused(Refusal::OutOfRange);
-    }
-    if k < 1 {
-        return Checked::Refused(Refusal::OutOfRange);
-    }
-    if 12 < k {
+    if !machine::within(1, 12, k) {
         return Checked::Refused(Refusal::OutOfRange);
     }
     let c = reading::rows_check(bytes, 4, n, k, n);
@@ -92,7 +86,7 @@ fn set_pairs(area: &mut [u16], from: usize, bytes: &[u8], at: usize, k: usize)
 }
 
 // The words of `rows` rows.
-pub fn set_rows(area: &mut [u16], bytes: &[u8], at: usize, k: usize, rows: usize)
+pub(crate) fn set_rows(area: &mut [u16], bytes: &[u8], at: usize, k: usize, rows: usize)
     requires { ⌜ rows * k ≤ length (now area) ⌝ }
     requires { ⌜ at + rows * (2 + 2 * k) ≤ length (now bytes) ⌝ }
     ensures { λ _. ⌜ now (area .exit) ≡ put 0 (rowWords k rows (drop at (now (bytes .entry)))) (now (area .entry)) ⌝ }

@@ -14,7 +14,7 @@ use machine::Checked;
 use machine::refusal::Refusal;
 
 // What a step answers: the place of the next one, or its refusal.
-pub enum Step {
+pub(crate) enum Step {
     Next(usize),
     Refused(Refusal),
 }
@@ -143,22 +143,13 @@ fn map_check(bytes: &[u8], at: usize, m: usize, n: usize) -> Step
 fn in_range(m: usize, k: usize, n: usize, c: usize) -> bool
     ensures { λ r. ⌜ r ≡ inRange (counts m k n c) ⌝ }
 {
-    if m < 1 {
+    if !machine::within(1, 48, m) {
         return false;
     }
-    if 48 < m {
+    if !machine::within(1, 12, k) {
         return false;
     }
-    if k < 1 {
-        return false;
-    }
-    if 12 < k {
-        return false;
-    }
-    if n < 1 {
-        return false;
-    }
-    if 48 < n {
+    if !machine::within(1, 48, n) {
         return false;
     }
     c <= 59
@@ -234,7 +225,7 @@ pub fn read(bytes: &[u8]) -> ProofRead
 }
 
 // The place of the record number `j` of words, counted from the record at `start`.
-pub fn record_place(bytes: &[u8], start: usize, j: usize) -> usize
+pub(crate) fn record_place(bytes: &[u8], start: usize, j: usize) -> usize
     requires { ⌜ recordPlace (now bytes) start j ≤ length (now bytes) ⌝ }
     ensures { λ r. ⌜ r ≡ recordPlace (now (bytes .entry)) start j ⌝ }
 {

@@ -11,7 +11,7 @@ use machine::Checked;
 use machine::refusal::Refusal;
 
 // Mark present (1), mark right (2).
-pub fn mark_check(bytes: &[u8], at: usize, due: &[u8; 2]) -> Checked
+pub(crate) fn mark_check(bytes: &[u8], at: usize, due: &[u8; 2]) -> Checked
     requires { ⌜ at ≤ length (now bytes) ⌝ }
     ensures { λ r. ⌜ checked r ≡ outcome (mark (getD (now (due .entry)) 0 0 ∷ getD (now (due .entry)) 1 0 ∷ []) (drop at (now (bytes .entry)))) ⌝ }
 {
@@ -45,7 +45,7 @@ fn pairs_check(bytes: &[u8], at: usize, n: usize, k: usize) -> Checked
 }
 
 // One row: its mark, then its bytes present (1), then its pairs.
-pub fn row_check(bytes: &[u8], at: usize, n: usize, k: usize) -> Checked
+pub(crate) fn row_check(bytes: &[u8], at: usize, n: usize, k: usize) -> Checked
     requires { ⌜ at ≤ length (now bytes) ⌝ }
     ensures { λ r. ⌜ checked r ≡ outcome (row n k (drop at (now (bytes .entry)))) ⌝ }
 {
@@ -62,7 +62,7 @@ pub fn row_check(bytes: &[u8], at: usize, n: usize, k: usize) -> Checked
 }
 
 // `r` rows, one after the other.
-pub fn rows_check(bytes: &[u8], at: usize, n: usize, k: usize, r: usize) -> Checked
+pub(crate) fn rows_check(bytes: &[u8], at: usize, n: usize, k: usize, r: usize) -> Checked
     requires { ⌜ at ≤ length (now bytes) ⌝ }
     ensures { λ x. ⌜ checked x ≡ outcome (rows n k r (drop at (now (bytes .entry)))) ⌝ }
 {

@@ -1,36 +1,43 @@
-use borrow.Author.Tests.{le-leb, lt-leb}
+use mathlib.Core.Path.{sym, _∙_}
+use borrow.Author.Needs.{needs}
+use Rattle.rules.specs.Tests.{not-true, not-false}
 use Rattle.sheets.specs.ProofParts.{inRange}
 use Rattle.sheets.proofs.proofs.in_range.Statement.{statement}
 use Rattle.sheets.proofs.proofs.in_range.Tie as tie
 
+within-requires : tie.Need-within-requires
+within-requires c κs = search needs
+
 returns : tie.Need-returns
 unfolding inRange
-returns c = simp (lt-leb _ _ (c .if1 .taken))
+returns c = simp (sym (c .before .within .ensures) ∙ not-true _ (c .if1 .taken))
+
+within-requires-2 : tie.Need-within-requires-2
+within-requires-2 c κs = search needs
 
 returns-2 : tie.Need-returns-2
 unfolding inRange
-returns-2 c = simp (le-leb _ _ (c .before .if1 .left), lt-leb _ _ (c .if2 .taken))
+returns-2 c = simp (sym (c .before .before .before .within .ensures) ∙ not-false _ (c .before .before .if1 .left), sym (c .before .within2 .ensures) ∙ not-true _ (c .if2 .taken))
+
+within-requires-3 : tie.Need-within-requires-3
+within-requires-3 c κs = search needs
 
 returns-3 : tie.Need-returns-3
 unfolding inRange
-returns-3 c = simp (le-leb _ _ (c .before .before .if1 .left), le-leb _ _ (c .before .if2 .left), lt-leb _ _ (c .if3 .taken))
+returns-3 c = simp (sym (c .before .before .before .before .before .within .ensures) ∙ not-false _ (c .before .before .before .before .if1 .left), sym (c .before .before .before .within2 .ensures) ∙ not-false _ (c .before .before .if2 .left), sym (c .before .within3 .ensures) ∙ not-true _ (c .if3 .taken))
 
 returns-4 : tie.Need-returns-4
 unfolding inRange
-returns-4 c = simp (le-leb _ _ (c .before .before .before .if1 .left), le-leb _ _ (c .before .before .if2 .left), le-leb _ _ (c .before .if3 .left), lt-leb _ _ (c .if4 .taken))
-
-returns-5 : tie.Need-returns-5
-unfolding inRange
-returns-5 c = simp (le-leb _ _ (c .before .before .before .before .if1 .left), le-leb _ _ (c .before .before .before .if2 .left), le-leb _ _ (c .before .before .if3 .left), le-leb _ _ (c .before .if4 .left), lt-leb _ _ (c .if5 .taken))
-
-returns-6 : tie.Need-returns-6
-unfolding inRange
-returns-6 c = simp (le-leb _ _ (c .before .before .before .before .before .if1 .left), le-leb _ _ (c .before .before .before .before .if2 .left), le-leb _ _ (c .before .before .before .if3 .left), le-leb _ _ (c .before .before .if4 .left), le-leb _ _ (c .before .if5 .left), lt-leb _ _ (c .if6 .taken))
-
-returns-7 : tie.Need-returns-7
-unfolding inRange
-returns-7 c = simp (le-leb _ _ (c .before .before .before .before .before .if1 .left), le-leb _ _ (c .before .before .before .before .if2 .left), le-leb _ _ (c .before .before .before .if3 .left), le-leb _ _ (c .before .before .if4 .left), le-leb _ _ (c .before .if5 .left), le-leb _ _ (c .if6 .left))
+returns-4 c = simp (sym (c .before .before .before .before .before .within .ensures) ∙ not-false _ (c .before .before .before .before .if1 .left), sym (c .before .before .before .within2 .ensures) ∙ not-false _ (c .before .before .if2 .left), sym (c .before .within3 .ensures) ∙ not-false _ (c .if3 .left))
 
 pub in-range-spec : {M : Type 1} → statement M
 in-range-spec =
-    tie.close (tie.spec returns returns-2 returns-3 returns-4 returns-5 returns-6 returns-7)
+    tie.close
+    (tie.spec
+    within-requires
+    returns
+    within-requires-2
+    returns-2
+    within-requires-3
+    returns-3
+    returns-4)
