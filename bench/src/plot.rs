@@ -105,6 +105,13 @@ fn legend(svg: &mut String) {
             x += 175.0;
         }
     }
+    text(
+        svg,
+        x,
+        24.0,
+        "start",
+        "time of one call, against the states of the machine",
+    );
 }
 
 fn axes(svg: &mut String, panel: &Panel, title: &str) {

@@ -58,12 +58,13 @@ measures the proved operations and the second program's on the same machines, in
 number here is from that run.
 
 - **Machines**: of each size a *random* one (two outputs, its smallest model has n states) and a *ring* (letter 0 goes round, the others
-  stay, one state shows itself), which takes n - 1 rounds, the most there are, with long counterexamples.
+  stay, one state shows itself), which takes n - 2 rounds and has long
+  counterexamples.
 - **Learning** is with L = 48 and R = 47, always Done. **Checking** is of the proof sheet that learning left, which is accepted.
   **Reading** is of the machine sheet, and then of that proof sheet. Before anything is measured, both sides' answers and the bytes of every area
   are held against each other.
 - **Ours** is the archive for C (`rt staticlib handheld`), called through `include/trachuliem.h`. **Second** is `second/`, the library's functions, in the same
-  program. Both are optimised by LLVM (second: cargo's release profile) for any x86-64, and no call of either is inlined into what measures it.
+  program. Both are optimised by LLVM (second: cargo's release profile) for any x86-64.
 - Both follow the rules step by step and answer every question by running its whole word from the start; neither keeps the state at the end of
   a row. Ours works in the lent areas and in arrays on the stack, and closing goes on from the row found last. Second was written for
   clarity: it makes a new word on the heap for each question, begins closing again at row 1, and reads a sheet into lists.
