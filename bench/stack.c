@@ -8,7 +8,13 @@
 
 #include "trachuliem.h"
 
-enum { STATES = TRACHULIEM_MOST_STATES, LETTERS = TRACHULIEM_MOST_LETTERS, LENGTH = STATES * LETTERS, STACK = 1 << 20, PAINT = 0xA5 };
+enum {
+    STATES = TRACHULIEM_MOST_STATES,
+    LETTERS = TRACHULIEM_MOST_LETTERS,
+    LENGTH = STATES * LETTERS,
+    STACK = 1 << 20,
+    PAINT = 0xA5
+};
 
 static _Alignas(4096) uint8_t stack[STACK];
 static uint16_t words[TRACHULIEM_WORD_AREA];
@@ -20,15 +26,32 @@ static size_t proof_length;
 static size_t machine_length;
 
 static void learn(void) {
-    proof_length = trachuliem_learn(words, LENGTH, STATES, LETTERS, TRACHULIEM_MOST_STATES, TRACHULIEM_MOST_ROUNDS, table, sizeof table, sheet, sizeof sheet).bytes;
+    proof_length = trachuliem_learn(words, LENGTH, STATES, LETTERS, TRACHULIEM_MOST_STATES, TRACHULIEM_MOST_ROUNDS,
+                                    table, sizeof table, sheet, sizeof sheet)
+                       .bytes;
 }
-static void check_proof(void) { trachuliem_check_proof(words, LENGTH, STATES, LETTERS, sheet, proof_length); }
-static void read_proof(void) { trachuliem_read_proof(sheet, proof_length); }
-static void aw_record(void) { trachuliem_aw_record(sheet, proof_length, STATES - 1); }
-static void write_machine(void) { machine_length = trachuliem_write_machine(words, LENGTH, STATES, LETTERS, machine_sheet, sizeof machine_sheet).length; }
-static void read_machine(void) { trachuliem_read_machine(machine_sheet, machine_length, words, TRACHULIEM_WORD_AREA); }
-static void check_machine(void) { trachuliem_check_machine(words, LENGTH, STATES, LETTERS); }
-static void question(void) { trachuliem_question(words, LENGTH, STATES, LETTERS, word, sizeof word); }
+static void check_proof(void) {
+    trachuliem_check_proof(words, LENGTH, STATES, LETTERS, sheet, proof_length);
+}
+static void read_proof(void) {
+    trachuliem_read_proof(sheet, proof_length);
+}
+static void aw_record(void) {
+    trachuliem_aw_record(sheet, proof_length, STATES - 1);
+}
+static void write_machine(void) {
+    machine_length =
+        trachuliem_write_machine(words, LENGTH, STATES, LETTERS, machine_sheet, sizeof machine_sheet).length;
+}
+static void read_machine(void) {
+    trachuliem_read_machine(machine_sheet, machine_length, words, TRACHULIEM_WORD_AREA);
+}
+static void check_machine(void) {
+    trachuliem_check_machine(words, LENGTH, STATES, LETTERS);
+}
+static void question(void) {
+    trachuliem_question(words, LENGTH, STATES, LETTERS, word, sizeof word);
+}
 
 /* In this order: what a later one needs, an earlier one leaves. */
 static const struct {
@@ -59,8 +82,8 @@ static size_t stack_of(void (*const *call)(void)) {
     pthread_t thread;
     void *used;
     memset(stack, PAINT, sizeof stack);
-    if (pthread_attr_init(&attributes) || pthread_attr_setstack(&attributes, stack, sizeof stack) || pthread_create(&thread, &attributes, measure, (void *)call) ||
-        pthread_join(thread, &used))
+    if (pthread_attr_init(&attributes) || pthread_attr_setstack(&attributes, stack, sizeof stack) ||
+        pthread_create(&thread, &attributes, measure, (void *)call) || pthread_join(thread, &used))
         exit(EXIT_FAILURE);
     pthread_attr_destroy(&attributes);
     return (size_t)used;
@@ -70,7 +93,8 @@ static size_t stack_of(void (*const *call)(void)) {
 static void ring(void) {
     for (size_t state = 0; state < STATES; state++)
         for (size_t letter = 0; letter < LETTERS; letter++)
-            words[state * LETTERS + letter] = (uint16_t)(256 * ((letter == 0 ? state + 1 : state) % STATES) + (letter == 0 && state == STATES - 1));
+            words[state * LETTERS + letter] =
+                (uint16_t)(256 * ((letter == 0 ? state + 1 : state) % STATES) + (letter == 0 && state == STATES - 1));
 }
 
 static void random_machine(void) {

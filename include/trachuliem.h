@@ -25,11 +25,11 @@ enum {
     TRACHULIEM_MOST_STATES = 48,
     TRACHULIEM_MOST_LETTERS = 12,
     TRACHULIEM_MOST_ROUNDS = 47,
-    TRACHULIEM_WORD_AREA = 576,            /* words: what reading a machine sheet asks for */
-    TRACHULIEM_TABLE_AREA = 34043,         /* bytes: what the learner asks for */
-    TRACHULIEM_TABLE_WIDTH = 59,           /* cell (row, column) lies at row*59 + column of the table area */
-    TRACHULIEM_MACHINE_SHEET_AREA = 1252,  /* bytes: what writing a machine sheet asks for, and the longest sheet */
-    TRACHULIEM_PROOF_SHEET_AREA = 9368,    /* bytes: what the learner asks for, and the longest proof sheet */
+    TRACHULIEM_WORD_AREA = 576,           /* words: what reading a machine sheet asks for */
+    TRACHULIEM_TABLE_AREA = 34043,        /* bytes: what the learner asks for */
+    TRACHULIEM_TABLE_WIDTH = 59,          /* cell (row, column) lies at row*59 + column of the table area */
+    TRACHULIEM_MACHINE_SHEET_AREA = 1252, /* bytes: what writing a machine sheet asks for, and the longest sheet */
+    TRACHULIEM_PROOF_SHEET_AREA = 9368,   /* bytes: what the learner asks for, and the longest proof sheet */
 };
 
 enum trachuliem_refusal {
@@ -101,19 +101,22 @@ uint8_t trachuliem_check_machine(const uint16_t *words, size_t words_length, siz
 
 /* A question, a word of one or more letters: its answer is the last output. Refusals: machine, then 6 for the empty word or a letter not
  * below k. */
-trachuliem_output trachuliem_question(const uint16_t *words, size_t words_length, size_t n, size_t k, const uint8_t *word, size_t word_length);
+trachuliem_output trachuliem_question(const uint16_t *words, size_t words_length, size_t n, size_t k,
+                                      const uint8_t *word, size_t word_length);
 
 /* Learns the machine's smallest model with a state limit (1 to 48) and at most so many rounds (0 to 47). Done and Open leave the cells in the
  * table area, with the other bytes of its first 34,043 zero. Done writes the proof sheet at the start of the sheet area, Open the mark CX, a
  * length byte and the counterexample's letters. Bytes beyond, in either area, are untouched. Refusals: 7, machine, 8, 9, 10. */
-trachuliem_outcome trachuliem_learn(const uint16_t *words, size_t words_length, size_t n, size_t k, size_t limit, size_t most, uint8_t *table, size_t table_length, uint8_t *sheet,
+trachuliem_outcome trachuliem_learn(const uint16_t *words, size_t words_length, size_t n, size_t k, size_t limit,
+                                    size_t most, uint8_t *table, size_t table_length, uint8_t *sheet,
                                     size_t sheet_length);
 
 /* Reads a machine sheet: gives n and k and sets the first n*k words of the area only. Refusals: sheet (1 to 5), then 8. */
 trachuliem_size trachuliem_read_machine(const uint8_t *sheet, size_t sheet_length, uint16_t *area, size_t area_length);
 
 /* Writes a machine sheet: gives its length and sets that many bytes of the area only. Refusals: words, then 9. */
-trachuliem_length trachuliem_write_machine(const uint16_t *words, size_t words_length, size_t n, size_t k, uint8_t *area, size_t area_length);
+trachuliem_length trachuliem_write_machine(const uint16_t *words, size_t words_length, size_t n, size_t k,
+                                           uint8_t *area, size_t area_length);
 
 /* Reads a proof sheet: gives m, k, n and c and writes nothing. Refusals: 1 to 6. */
 trachuliem_counts trachuliem_read_proof(const uint8_t *sheet, size_t sheet_length);
@@ -122,7 +125,8 @@ trachuliem_counts trachuliem_read_proof(const uint8_t *sheet, size_t sheet_lengt
 trachuliem_part trachuliem_aw_record(const uint8_t *sheet, size_t sheet_length, size_t state);
 
 /* Checks a proof sheet against a machine and writes nothing. Answers 0 or the refusal's number: machine, sheet, 11 to 14. */
-uint8_t trachuliem_check_proof(const uint16_t *words, size_t words_length, size_t n, size_t k, const uint8_t *sheet, size_t sheet_length);
+uint8_t trachuliem_check_proof(const uint16_t *words, size_t words_length, size_t n, size_t k, const uint8_t *sheet,
+                               size_t sheet_length);
 
 #ifdef __cplusplus
 }

@@ -4,7 +4,8 @@
 
 #include "trachuliem.h"
 
-static const uint8_t m1[] = {'M', 'H', 4, 2, 'M', 'R', 0, 1, 0, 0, 'M', 'R', 0, 2, 0, 1, 'M', 'R', 1, 0, 0, 2, 'M', 'R', 1, 3, 0, 0};
+static const uint8_t m1[] = {'M', 'H', 4,   2,   'M', 'R', 0, 1, 0,   0,   'M', 'R', 0, 2,
+                             0,   1,   'M', 'R', 1,   0,   0, 2, 'M', 'R', 1,   3,   0, 0};
 
 /* Not on the stack: a handheld's is small. */
 static uint16_t words[TRACHULIEM_WORD_AREA];
@@ -21,7 +22,8 @@ static void print_bytes(const char *name, const uint8_t *bytes, size_t length) {
 
 static void print_learnt(const char *name, trachuliem_outcome learnt) {
     static const char *const kinds[] = {"refused", "done", "open"};
-    printf("%s %s %u: %zu states, %zu rounds, %zu cells, %zu bytes\n", name, kinds[learnt.kind], learnt.refusal, learnt.states, learnt.rounds, learnt.cells, learnt.bytes);
+    printf("%s %s %u: %zu states, %zu rounds, %zu cells, %zu bytes\n", name, kinds[learnt.kind], learnt.refusal,
+           learnt.states, learnt.rounds, learnt.cells, learnt.bytes);
 }
 
 int main(void) {
@@ -37,12 +39,14 @@ int main(void) {
     trachuliem_output answer = trachuliem_question(words, length, size.n, size.k, word, sizeof word);
     printf("question %u: output %u\n", answer.refusal, answer.output);
 
-    trachuliem_outcome open = trachuliem_learn(words, length, size.n, size.k, 1, 0, table, sizeof table, sheet, sizeof sheet);
+    trachuliem_outcome open =
+        trachuliem_learn(words, length, size.n, size.k, 1, 0, table, sizeof table, sheet, sizeof sheet);
     print_learnt("learnt", open);
     print_bytes("counterexample", sheet, open.bytes);
-    print_learnt("learnt", trachuliem_learn(words, length, size.n, size.k, 2, TRACHULIEM_MOST_ROUNDS, table, sizeof table, sheet, sizeof sheet));
-    trachuliem_outcome done =
-        trachuliem_learn(words, length, size.n, size.k, TRACHULIEM_MOST_STATES, TRACHULIEM_MOST_ROUNDS, table, sizeof table, sheet, sizeof sheet);
+    print_learnt("learnt", trachuliem_learn(words, length, size.n, size.k, 2, TRACHULIEM_MOST_ROUNDS, table,
+                                            sizeof table, sheet, sizeof sheet));
+    trachuliem_outcome done = trachuliem_learn(words, length, size.n, size.k, TRACHULIEM_MOST_STATES,
+                                               TRACHULIEM_MOST_ROUNDS, table, sizeof table, sheet, sizeof sheet);
     print_learnt("learnt", done);
     print_bytes("proof sheet", sheet, done.bytes);
 

@@ -63,11 +63,22 @@ number here is from that run.
 - **Learning** is with L = 48 and R = 47, always Done. **Checking** is of the proof sheet that learning left, which is accepted.
   **Reading** is of the machine sheet, and then of that proof sheet. Before anything is measured, both sides' answers and the bytes of every area
   are held against each other.
-- **Ours** is the archive for C (`rt staticlib handheld`), called through `include/trachuliem.h`. **Second** is `second/`, the library's functions, in the same
-  program. Both are optimised by LLVM (second: cargo's release profile) for any x86-64.
+- **Ours** is the archive for C (`rt staticlib handheld`), called as `include/trachuliem.h` declares it. **Second** is the library of `second/`, in
+  the same program. Both are optimised by LLVM (second: cargo's release profile) for any x86-64.
 - Both follow the rules step by step and answer every question by running its whole word from the start; neither keeps the state at the end of
-  a row. Ours works in the lent areas and in arrays on the stack, and closing goes on from the row found last. Second was written for
-  clarity: it makes a new word on the heap for each question, begins closing again at row 1, and reads a sheet into lists.
+  a row. Ours works in the lent areas and in arrays on the stack, closing goes on from the row found last, and rows are compared byte by
+  byte. Second was written for clarity: it makes a new word on the heap for each question, begins closing again at row 1, compares rows by
+  the C library's `memcmp`, and reads a sheet into lists.
+";
+
+const STACK: &str = "
+## Stack
+
+Bytes below the caller's frame, for a machine of 48 states and 12 letters (the ring or a random one, whichever takes more), found by
+painting a thread's stack before the call (`bench/stack.c`). The lent areas are the caller's and do not count.
+
+| operation | bytes |
+|---|---|
 ";
 
 pub fn page(rows: &[Row], stack: &str, setting: &str) -> String {
@@ -92,9 +103,7 @@ pub fn page(rows: &[Row], stack: &str, setting: &str) -> String {
                 .map_or_else(|| "-".to_string(), |count| significant(count / 1e3))
         });
     }
-    page.push_str(
-        "\n## Stack\n\nBytes below the caller's frame, for a machine of 48 states and 12 letters (the ring or a random one, whichever takes more), found by painting a thread's stack before\nthe call (`bench/stack.c`). The lent areas are the caller's and do not count.\n\n| operation | bytes |\n|---|---|\n",
-    );
+    page.push_str(STACK);
     for (operation, bytes) in stack.lines().filter_map(|line| line.split_once(' ')) {
         let _ = writeln!(page, "| `trachuliem_{operation}` | {bytes} |");
     }
