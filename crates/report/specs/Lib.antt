@@ -1,3 +1,6 @@
 pub mod Report
 pub mod ReportLaws
 pub mod Reading
+pub mod Desk
+pub mod DeskAnswers
+pub mod DeskLaws
