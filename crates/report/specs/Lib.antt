@@ -4,3 +4,4 @@ pub mod Reading
 pub mod Desk
 pub mod DeskAnswers
 pub mod DeskLaws
+pub mod DeskMeans

@@ -4,8 +4,9 @@ use mathlib.Core.List.{List}
 use Prim.Native.Nat.{ℕ, _+_, _*_, _-_, _≤_}
 use native.Mathlib.Nat.{mul-le-mul}
 use native.Mathlib.Omega.{arith}
-use lib.ListN.{take}
-use Rattle.rules.specs.Areas.{zeros}
+use lib.ListN.{take, length-replicate}
+use lib.Seq.{take-at}
+use Rattle.rules.specs.Areas.{over, zeros}
 use Rattle.rules.specs.Answer.{Answer, refused, gives}
 use Rattle.machine.specs.LentLaws.{lent-sound}
 use Rattle.learning.specs.Learner.{Counts, Learnt, done, unfinished, Left, tableSize, sheetSize, learnCheck, learn}
@@ -14,14 +15,21 @@ use Rattle.learning.specs.Demand2.{refused-leaves, done-figures}
 use Rattle.sheets.specs.Reading.{Parsed, bad, good}
 use Rattle.sheets.specs.Machines as machines
 use Rattle.sheets.specs.Machines.{Sheet, Size, machineSheet, readLeaves, readMachine}
-use Rattle.sheets.specs.MachineSteps.{sheet-were}
+use Rattle.sheets.specs.MachineSteps.{sheet-were, read-leaves}
+use Rattle.sheets.specs.WordSteps.{clash}
 use Rattle.machine.specs.LentLaws.{within-both}
 use Rattle.report.specs.Report.{refusal, toldOf, readTold, report}
 use Rattle.report.specs.ReportLaws.{Small, SmallIfDone}
 
--- an answer is no refusal
-clash : {A : Type 0} {x : ℕ} {a : A} → _≡_ {A = Answer A} (refused x) (gives a) → ⊥
-clash e = let z : _≡_ {A = ℕ} 0 1 = cc in omega arith
+-- a sheet that says a machine is read as its n, its k and its words
+module _ (bytes rest : List ℕ) (s : Sheet) (e : machineSheet bytes ≡ good s rest) where
+  pub sheet-read : record { answer = gives (record { n = s .n; k = s .k }); area = over (s .words) (zeros 576) } ≡ readMachine bytes (zeros 576)
+  unfolding zeros
+  sheet-read = sym (read-leaves bytes (zeros 576) s rest e (omega (arith, length-replicate {A = ℕ} 576 0)))
+
+  pub sheet-words : take (s .n * s .k) (over (s .words) (zeros 576)) ≡ s .words
+  unfolding over
+  sheet-words = take-at (s .words) _ (s .n * s .k) (sheet-were bytes rest s e .rows .long)
 
 module _ (bytes area : List ℕ) (answer : Answer Size) (was : record { answer = answer; area = area } ≡ readMachine bytes (zeros 576)) where
   said : report bytes ≡ readTold answer area
