@@ -10,8 +10,10 @@ use Rattle.rules.specs.Areas.{over, zeros}
 use Rattle.rules.specs.Answer.{Answer, refused, gives}
 use Rattle.machine.specs.LentLaws.{lent-sound}
 use Rattle.learning.specs.Learner.{Counts, Learnt, done, unfinished, Left, tableSize, sheetSize, learnCheck, learn}
-use Rattle.learning.specs.Outcomes.{taken}
-use Rattle.learning.specs.Demand2.{refused-leaves, done-figures}
+use Rattle.learning.specs.Outcomes.{taken, at-done, ended}
+use Rattle.learning.specs.Proper.{sound-proper}
+use Rattle.learning.specs.Finished.{sheet-most}
+use Rattle.learning.specs.Demand2.{refused-leaves, done-bytes, done-figures}
 use Rattle.sheets.specs.Reading.{Parsed, bad, good}
 use Rattle.sheets.specs.Machines as machines
 use Rattle.sheets.specs.Machines.{Sheet, Size, machineSheet, readLeaves, readMachine}
@@ -69,7 +71,10 @@ small-done n k words L R table sheet l is = go (learnCheck n k words L R table s
         let rows : 1 + n * k ≤ 577 = omega (arith, mul-le-mul (s .n-high) (s .k-high)) in
         let columns : k + n - 1 ≤ 59 = omega (arith, s .n-high, s .k-high) in
         let cells : (1 + n * k) * (k + n - 1) ≤ 577 * 59 = mul-le-mul rows columns in
-        (omega (arith, f .few, s .n-high), omega (arith, f .few, f .fewer, s .n-high), omega (arith, f .most))
+        let closed = at-done (ended n k words L R table sheet asked) (sym e) .closed in
+        let most = sheet-most (sound-proper s) R closed in
+        let bytes = done-bytes n k words L R table sheet asked c (sym e) in
+        (omega (arith, f .few, s .n-high), omega (arith, f .few, f .fewer, s .n-high), omega (arith, f .most), omega arith)
 
     go : (a : Answer (Unit {0})) → learnCheck n k words L R table sheet ≡ a → (answer : Answer Learnt) → answer ≡ learn n k words L R table sheet .answer → SmallIfDone answer
     go (refused x) asked (refused y) e = tt

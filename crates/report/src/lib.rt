@@ -9,6 +9,7 @@ ghost use Rattle.report.specs.Report.{line, refusal, pairLine, pairLines
 ghost use Rattle.report.specs.Report as said;
 ghost use Rattle.report.specs.ReportLaws.{counted, SmallIfDone};
 
+pub mod send;
 pub mod verdict;
 
 use areas::store;
