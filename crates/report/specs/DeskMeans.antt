@@ -1,25 +1,28 @@
--- What the desk programs' answers mean: theorems about `verdict`, for all bytes.
+-- What the desk programs' answers mean: theorems about `verdict` and `send`.
 use mathlib.Core.Path.{_≡_, refl, sym, ap, _∙_}
 use mathlib.Core.List.{List, []}
-use Prim.Native.Nat.{ℕ}
+use Prim.Native.Nat.{ℕ, _≤_}
 use native.Mathlib.Omega.{arith}
-use lib.ListN.{getD}
+use lib.ListN.{length, getD, take, length-replicate}
 use Rattle.rules.specs.Words.{Below}
 use Rattle.rules.specs.Machine.{lent, SmallestModel}
-use Rattle.rules.specs.Sheets.{Proof}
+use Rattle.rules.specs.Sheets.{Proof, machineBytes, proofBytes}
 use Rattle.rules.specs.Areas.{zeros}
 use Rattle.rules.specs.Answer.{Answer, refused, gives}
-use Rattle.machine.specs.Lent.{link}
+use Rattle.machine.specs.Lent.{link, lentCheck}
+use Rattle.learning.specs.Learner.{tableSize, sheetSize, learn}
+use Rattle.learning.specs.Finished.{sheetOf, modelOn}
 use Rattle.sheets.specs.Reading.{Parsed, bad, good}
-use Rattle.sheets.specs.Machines.{Sheet, machineSheet, readLeaves, readMachine}
+use Rattle.sheets.specs.Machines.{Sheet, Left, machineSheet, readLeaves, readMachine}
 use Rattle.sheets.specs.MachineSteps.{sheet-were}
+use Rattle.sheets.specs.MachineLaws.{written-reads}
 use Rattle.sheets.specs.Proofs.{Counts, proofSheet}
 use Rattle.sheets.specs.Places.{laid}
 use Rattle.sheets.specs.Checker.{modelOf, check}
 use Rattle.sheets.specs.Demand3 as checker
-use Rattle.report.specs.Desk.{Verdict, accepted, machineRefused, proofRefused, judged, verdict}
-use Rattle.report.specs.Reading.{sheet-read, sheet-words}
-use Rattle.report.specs.DeskLaws.{machine-refused, proof-judged}
+use Rattle.report.specs.Desk.{Verdict, accepted, machineRefused, proofRefused, judged, verdict, lengthOf, sending, send}
+use Rattle.report.specs.Reading.{sheet-read, sheet-words, always-done}
+use Rattle.report.specs.DeskLaws.{machine-refused, proof-judged, learnt-sent}
 
 -- a machine sheet that cannot be read is refused as the reader does; else the verdict is the checker's, of the machine that it says
 bad-says : (machine proof : List ℕ) (x : ℕ) → machineSheet machine ≡ bad x → verdict machine proof ≡ machineRefused x
@@ -63,3 +66,29 @@ module _ (machine proof : List ℕ) (m : ℕ) (is : verdict machine proof ≡ ac
       let s = a .0 in
       let p = checker.accepted-smallest (s .n) (s .k) (s .words) proof b (a .2) in
       (s, a .1, (p .0, p .1, ap (λ (h : Counts). h .m) (laid proof (p .0) [] (p .1) .said) ∙ a .3, p .2))
+
+-- SENT. For the sheet of each machine within the limits `proof` sends a sheet, which the checker accepts for that machine; and so does
+-- `accept`, with the number of the model's states.
+pub sent-accepted : (n k : ℕ) (words area : List ℕ) → lentCheck n k words ≡ gives tt → sheetSize ≤ length area
+    → let l = send (machineBytes n k words) area in
+    (size : ℕ) × (l .answer ≡ gives size) × (check n k words (take size (l .area)) ≡ gives tt)
+    × (verdict (machineBytes n k words) (take size (l .area)) ≡ accepted (modelOn k (sheetOf k (link n k words) 47) .states))
+unfolding proofBytes lent zeros
+sent-accepted n k words area sound room =
+    let s : Sheet = record { n = n; k = k; words = words } in
+    let reads = written-reads n k words sound in
+    let left = learn n k words 48 47 (zeros tableSize) area in
+    let a = always-done n k words (zeros tableSize) area sound (omega (arith, length-replicate {A = ℕ} tableSize 0)) room in
+    let c = a .1 .0 in
+    let is = a .1 .1 in
+    let sent : send (machineBytes n k words) area ≡ sending left =
+    learnt-sent (machineBytes n k words) area _ _ (sheet-read (machineBytes n k words) [] s reads) _ _ refl
+    (ap (λ (w : List ℕ). learn n k w 48 47 (zeros tableSize) area) (sym (sheet-words (machineBytes n k words) [] s reads))) in
+    let there : take (c .bytes) (send (machineBytes n k words) area .area) ≡ proofBytes (sheetOf k (link n k words) 47) =
+    ap (λ (l : Left ℕ). take (c .bytes) (l .area)) sent ∙ checker.learner-left n k words 48 47 (zeros tableSize) area c is in
+    let judged = checker.learner-accepted n k words 48 47 (zeros tableSize) area c is in (
+      c .bytes,
+      ap (λ (l : Left ℕ). l .answer) sent ∙ ap lengthOf is,
+      ap (check n k words) there ∙ judged,
+      ap (verdict (machineBytes n k words)) there ∙ accepts (machineBytes n k words) (proofBytes (sheetOf k (link n k words) 47)) [] s reads judged,
+    )
