@@ -5,3 +5,4 @@ pub mod Desk
 pub mod DeskAnswers
 pub mod DeskLaws
 pub mod DeskMeans
+pub mod Printed
