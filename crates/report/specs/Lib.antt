@@ -6,3 +6,4 @@ pub mod DeskAnswers
 pub mod DeskLaws
 pub mod DeskMeans
 pub mod Printed
+pub mod Cases
