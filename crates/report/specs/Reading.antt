@@ -1,27 +1,40 @@
 -- From the bytes of a machine sheet to the text: a refusal, or what the learner's answer makes of it, whose counts are small.
 use mathlib.Core.Path.{_≡_, refl, sym, ap, _∙_}
+use mathlib.Core.Logic.{_⊎_, inl, inr}
 use mathlib.Core.List.{List}
 use Prim.Native.Nat.{ℕ, _+_, _*_, _-_, _≤_}
 use native.Mathlib.Nat.{mul-le-mul}
 use native.Mathlib.Omega.{arith}
-use lib.ListN.{take}
-use Rattle.rules.specs.Areas.{zeros}
+use lib.ListN.{length, take, length-replicate}
+use lib.Seq.{take-at}
+use borrow.Author.Tests.{le-leb}
+use Rattle.rules.specs.Areas.{over, zeros}
 use Rattle.rules.specs.Answer.{Answer, refused, gives}
-use Rattle.machine.specs.LentLaws.{lent-sound}
+use Rattle.machine.specs.Lent.{lentCheck}
+use Rattle.machine.specs.LentLaws.{lent-sound, within-both}
 use Rattle.learning.specs.Learner.{Counts, Learnt, done, unfinished, Left, tableSize, sheetSize, learnCheck, learn}
-use Rattle.learning.specs.Outcomes.{taken}
-use Rattle.learning.specs.Demand2.{refused-leaves, done-figures}
+use Rattle.learning.specs.Outcomes.{taken, at-done, ended}
+use Rattle.learning.specs.Proper.{sound-proper}
+use Rattle.learning.specs.Bounds.{stop-bounds}
+use Rattle.learning.specs.Finished.{sheet-most}
+use Rattle.learning.specs.Demand2.{refused-leaves, ten-when, done-bytes, done-figures, done-or-ten}
 use Rattle.sheets.specs.Reading.{Parsed, bad, good}
 use Rattle.sheets.specs.Machines as machines
 use Rattle.sheets.specs.Machines.{Sheet, Size, machineSheet, readLeaves, readMachine}
-use Rattle.sheets.specs.MachineSteps.{sheet-were}
-use Rattle.machine.specs.LentLaws.{within-both}
+use Rattle.sheets.specs.MachineSteps.{sheet-were, read-leaves}
+use Rattle.sheets.specs.WordSteps.{clash}
 use Rattle.report.specs.Report.{refusal, toldOf, readTold, report}
 use Rattle.report.specs.ReportLaws.{Small, SmallIfDone}
 
--- an answer is no refusal
-clash : {A : Type 0} {x : ℕ} {a : A} → _≡_ {A = Answer A} (refused x) (gives a) → ⊥
-clash e = let z : _≡_ {A = ℕ} 0 1 = cc in omega arith
+-- a sheet that says a machine is read as its n, its k and its words
+module _ (bytes rest : List ℕ) (s : Sheet) (e : machineSheet bytes ≡ good s rest) where
+  pub sheet-read : record { answer = gives (record { n = s .n; k = s .k }); area = over (s .words) (zeros 576) } ≡ readMachine bytes (zeros 576)
+  unfolding zeros
+  sheet-read = sym (read-leaves bytes (zeros 576) s rest e (omega (arith, length-replicate {A = ℕ} 576 0)))
+
+  pub sheet-words : take (s .n * s .k) (over (s .words) (zeros 576)) ≡ s .words
+  unfolding over
+  sheet-words = take-at (s .words) _ (s .n * s .k) (sheet-were bytes rest s e .rows .long)
 
 module _ (bytes area : List ℕ) (answer : Answer Size) (was : record { answer = answer; area = area } ≡ readMachine bytes (zeros 576)) where
   said : report bytes ≡ readTold answer area
@@ -61,7 +74,10 @@ small-done n k words L R table sheet l is = go (learnCheck n k words L R table s
         let rows : 1 + n * k ≤ 577 = omega (arith, mul-le-mul (s .n-high) (s .k-high)) in
         let columns : k + n - 1 ≤ 59 = omega (arith, s .n-high, s .k-high) in
         let cells : (1 + n * k) * (k + n - 1) ≤ 577 * 59 = mul-le-mul rows columns in
-        (omega (arith, f .few, s .n-high), omega (arith, f .few, f .fewer, s .n-high), omega (arith, f .most))
+        let closed = at-done (ended n k words L R table sheet asked) (sym e) .closed in
+        let most = sheet-most (sound-proper s) R closed in
+        let bytes = done-bytes n k words L R table sheet asked c (sym e) in
+        (omega (arith, f .few, s .n-high), omega (arith, f .few, f .fewer, s .n-high), omega (arith, f .most), omega arith)
 
     go : (a : Answer (Unit {0})) → learnCheck n k words L R table sheet ≡ a → (answer : Answer Learnt) → answer ≡ learn n k words L R table sheet .answer → SmallIfDone answer
     go (refused x) asked (refused y) e = tt
@@ -69,3 +85,20 @@ small-done n k words L R table sheet l is = go (learnCheck n k words L R table s
     go (gives u) asked (refused y) e = tt
     go (gives u) asked (gives (done c)) e = small c asked e
     go (gives u) asked (gives (unfinished c)) e = tt
+
+-- With 48 states and 47 rounds allowed, sound words are learnt: S has no more words than there are states, so 10 is never given.
+module _ (n k : ℕ) (words table sheet : List ℕ) (sound : lentCheck n k words ≡ gives tt) (t : tableSize ≤ length table) (s : sheetSize ≤ length sheet) where
+  asked : learnCheck n k words 48 47 table sheet ≡ gives tt
+  unfolding learnCheck
+  asked = rw (sound, le-leb tableSize (length table) t, le-leb sheetSize (length sheet) s)
+
+  pub always-done : (learnCheck n k words 48 47 table sheet ≡ gives tt) × ((c : Counts) × (learn n k words 48 47 table sheet .answer ≡ gives (done c)))
+  always-done = (asked, go (done-or-ten n k words 48 table sheet asked))
+    where
+      go : ((c : Counts) × (learn n k words 48 47 table sheet .answer ≡ gives (done c))) ⊎ (learn n k words 48 47 table sheet .answer ≡ refused 10)
+          → (c : Counts) × (learn n k words 48 47 table sheet .answer ≡ gives (done c))
+      go (inl d) = d
+      go (inr e) =
+          let many = ten-when n k words 48 47 table sheet asked .0 e in
+          let few = stop-bounds (sound-proper (lent-sound n k words sound)) 47 .words-most in
+          absurd (omega arith)

@@ -111,7 +111,7 @@ pairs-most states k h g = mul-le-mul h g
 
 -- the counts of a finished model are small
 abbrev pub Small : Counts → Type 0
-Small c = (c .states ≤ 48) × (c .rounds ≤ 47) × (c .cells ≤ 34043)
+Small c = (c .states ≤ 48) × (c .rounds ≤ 47) × (c .cells ≤ 34043) × (c .bytes ≤ 9368)
 
 abbrev pub SmallIfDone : Answer Learnt → Type 0
 SmallIfDone (refused x) = Unit {0}

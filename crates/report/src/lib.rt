@@ -8,6 +8,10 @@ ghost use Rattle.machine.specs.Refusals as refusals;
 ghost use Rattle.report.specs.Report.{line, refusal, pairLine, pairLines, model, told};
 ghost use Rattle.report.specs.Report as said;
 ghost use Rattle.report.specs.ReportLaws.{counted, SmallIfDone};
+
+pub mod send;
+pub mod verdict;
+
 use areas::store;
 use learning::Learnt;
 use machine::refusal::Refusal;

@@ -1,26 +1,13 @@
 use native.Mathlib.Omega.{arith}
-use mathlib.Core.Path.{_≡_, refl, ap}
-use Prim.Native.Nat.{ℕ}
+use mathlib.Core.Path.{ap, subst}
 use borrow.Author.Needs.{needs}
+use Rattle.text.specs.Putting.{put-nothing}
+use Rattle.learning.specs.Answers.{learnt}
+use Rattle.report.specs.Report.{model}
+use Rattle.report.specs.ReportLaws.{SmallIfDone}
 use Rattle.report.proofs.put_learnt.Statement.{statement}
 use Rattle.report.proofs.put_learnt.Tie as tie
-use Rattle.learning.proofs.Learnt.{the-type}
-use Rattle.learning.specs.declared.Learnt.{Learnt}
-use Rattle.learning.specs.declared.Learnt.the-variants as variant
-use Rattle.learning.specs.Answers.{learnt}
-use Rattle.text.specs.Putting.{put-nothing}
-use Rattle.report.specs.Report.{told, model}
-use Rattle.report.specs.ReportLaws.{SmallIfDone}
-use mathlib.Core.List.{List, [], _∷_}
-use mathlib.Core.Path.{subst}
-use types.Run.{OneOf, miss}
-use denote.Enum.Declared.{tagOf}
-
--- neither done nor refused, it is open
-open-says : (k : ℕ) (w : Learnt) (sheet : List ℕ) → OneOf (1 ∷ 2 ∷ []) (tagOf the-type w) → OneOf (0 ∷ 1 ∷ []) (tagOf the-type w) → told k (learnt w) sheet ≡ []
-open-says k (variant.Done a b c d) sheet h g = absurd (miss (1 ∷ 2 ∷ []) 0 tt h)
-open-says k (variant.Open a b c d) sheet h g = refl
-open-says k (variant.Refused r) sheet h g = absurd (miss (0 ∷ 1 ∷ []) 2 tt g)
+use Rattle.report.proofs.Laws.{is-open}
 
 enum-known-answer : tie.Need-enum-known-answer
 enum-known-answer c = search needs
@@ -31,7 +18,7 @@ enum-known-answer-2 c = search needs
 returns : tie.Need-returns
 returns c =
     let a = c .before .before .before .before .args in
-    rw (open-says (a .k) (a .answer) (a .sheet .now) (c .before .match .keys2) (c .match2 .keys2)) (put-nothing 0 (a .area .now), omega arith)
+    rw (is-open (a .answer) (c .before .match .keys2) (c .match2 .keys2) .1) (put-nothing 0 (a .area .now), omega arith)
 
 put-refusal-requires : tie.Need-put-refusal-requires
 put-refusal-requires c κs = search needs
