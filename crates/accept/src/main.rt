@@ -20,7 +20,10 @@ fn explain(r: Refusal) {
             io::write_all(1, b"a mark is not the one due\n");
         }
         Refusal::OutOfRange => {
-            io::write_all(1, b"a count of states, letters or columns is outside its range\n");
+            io::write_all(
+                1,
+                b"a count of states, letters or columns is outside its range\n",
+            );
         }
         Refusal::NoSuchState => {
             io::write_all(1, b"it names a state that is not there\n");
@@ -29,7 +32,10 @@ fn explain(r: Refusal) {
             io::write_all(1, b"bytes are left over\n");
         }
         Refusal::BadWord => {
-            io::write_all(1, b"a word has a wrong length or a letter that is not there\n");
+            io::write_all(
+                1,
+                b"a word has a wrong length or a letter that is not there\n",
+            );
         }
         Refusal::BadLimit => {
             io::write_all(1, b"a limit is outside its range\n");

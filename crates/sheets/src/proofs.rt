@@ -225,7 +225,7 @@ pub fn read(bytes: &[u8]) -> ProofRead
 }
 
 // The place of the record number `j` of words, counted from the record at `start`.
-pub(crate) fn record_place(bytes: &[u8], start: usize, j: usize) -> usize
+pub fn record_place(bytes: &[u8], start: usize, j: usize) -> usize
     requires { ⌜ recordPlace (now bytes) start j ≤ length (now bytes) ⌝ }
     ensures { λ r. ⌜ r ≡ recordPlace (now (bytes .entry)) start j ⌝ }
 {
