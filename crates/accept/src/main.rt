@@ -20,7 +20,10 @@ fn explain(r: Refusal) {
             io::write_all(1, b"a mark is not the one due\n");
         }
         Refusal::OutOfRange => {
-            io::write_all(1, b"a count of states, letters or columns is outside its range\n");
+            io::write_all(
+                1,
+                b"a count of states, letters or columns is outside its range\n",
+            );
         }
         Refusal::NoSuchState => {
             io::write_all(1, b"it names a state that is not there\n");
@@ -29,7 +32,10 @@ fn explain(r: Refusal) {
             io::write_all(1, b"bytes are left over\n");
         }
         Refusal::BadWord => {
-            io::write_all(1, b"a word has a wrong length or a letter that is not there\n");
+            io::write_all(
+                1,
+                b"a word has a wrong length or a letter that is not there\n",
+            );
         }
         Refusal::BadLimit => {
             io::write_all(1, b"a limit is outside its range\n");
@@ -84,10 +90,13 @@ fn open(i: usize) -> i32 {
     let mut name = io::buffer();
     let size = os::arg(i, &mut name);
     let file = os::open_read(&name[..size]);
-    if file < 0 {
+    // To read nothing fails where nothing was opened, and from a folder.
+    let mut nothing = [0u8; 1];
+    if libc::read(file, &mut nothing[..0]) < 0 {
         io::write_all(2, b"accept: cannot read ");
         io::write_all(2, &name[..size]);
         io::write_all(2, b"\n");
+        return -1;
     }
     file
 }
