@@ -20,7 +20,7 @@ use Rattle.sheets.specs.Proofs.{Counts, proofSheet}
 use Rattle.sheets.specs.Places.{laid}
 use Rattle.sheets.specs.Checker.{modelOf, check}
 use Rattle.sheets.specs.Demand3 as checker
-use Rattle.report.specs.Desk.{Verdict, accepted, machineRefused, proofRefused, judged, verdict, lengthOf, sending, send}
+use Rattle.report.specs.Desk.{accepted, machineRefused, judged, verdict, lengthOf, sending, send}
 use Rattle.report.specs.Reading.{sheet-refused, sheet-read, sheet-words, always-done}
 use Rattle.report.specs.DeskLaws.{machine-refused, proof-judged, learnt-sent}
 

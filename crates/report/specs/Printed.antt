@@ -15,7 +15,7 @@ use Rattle.rules.specs.Answer.{Answer, gives}
 use Rattle.machine.specs.Lent.{link, lentCheck}
 use Rattle.machine.specs.LentLaws.{lent-sound}
 use Rattle.finish.specs.Sheet.{numberedSheet}
-use Rattle.learning.specs.Learner.{Counts, Learnt, Left, tableSize, sheetSize, finished, learn}
+use Rattle.learning.specs.Learner.{Counts, Learnt, tableSize, sheetSize, finished, learn}
 use Rattle.learning.specs.Outcomes.{at-done, ended}
 use Rattle.learning.specs.Proper.{sound-proper}
 use Rattle.learning.specs.Finished.{sheetOf, modelOn}
