@@ -90,10 +90,13 @@ fn open(i: usize) -> i32 {
     let mut name = io::buffer();
     let size = os::arg(i, &mut name);
     let file = os::open_read(&name[..size]);
-    if file < 0 {
+    // To read nothing fails where nothing was opened, and from a folder.
+    let mut nothing = [0u8; 1];
+    if libc::read(file, &mut nothing[..0]) < 0 {
         io::write_all(2, b"accept: cannot read ");
         io::write_all(2, &name[..size]);
         io::write_all(2, b"\n");
+        return -1;
     }
     file
 }

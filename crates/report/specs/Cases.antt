@@ -19,7 +19,8 @@ digits a b c d = (48 + a) ∷ 0x20 ∷ (48 + b) ∷ 0x20 ∷ (48 + c) ∷ 0x20 �
 abbrev pub first : List ℕ
 first = 0x6D ∷ 0x6F ∷ 0x64 ∷ 0x65 ∷ 0x6C ∷ 0x20 ∷ 0x33 ∷ 0x20 ∷ 0x32 ∷ 0x20 ∷ 0x31 ∷ 0x20 ∷ 0x32 ∷ 0x31 ∷ 0x0A ∷ []
 
-pub m1-printed : report m1 ≡ first ++ (digits 0 0 0 1 ++ (digits 0 1 0 0 ++ (digits 1 0 0 2 ++ (digits 1 1 0 1 ++ (digits 2 0 1 0 ++ digits 2 1 0 2)))))
+pub m1-printed : report m1
+    ≡ first ++ (digits 0 0 0 1 ++ (digits 0 1 0 0 ++ (digits 1 0 0 2 ++ (digits 1 1 0 1 ++ (digits 2 0 1 0 ++ digits 2 1 0 2)))))
 unfolding report
 m1-printed = refl
 

@@ -32,7 +32,8 @@ verdict-of-fixed (says.ProofRefused r) (says.Accepted b) e = let z : _≡_ {A = 
 verdict-of-fixed (says.ProofRefused r) (says.MachineRefused s) e = let z : _≡_ {A = ℕ} 0 1 = cc in absurd (clash z)
 verdict-of-fixed (says.ProofRefused r) (says.ProofRefused s) e = let h : number r ≡ number s = cc in ap says.ProofRefused (number-inj r s h)
 
-pub verdict-fixed : (machine proof : List ℕ) (x y : declared.Verdict) → verdictOf x ≡ verdict machine proof → verdictOf y ≡ verdict machine proof → x ≡ y
+pub verdict-fixed : (machine proof : List ℕ) (x y : declared.Verdict) → verdictOf x ≡ verdict machine proof → verdictOf y ≡ verdict machine proof
+    → x ≡ y
 verdict-fixed machine proof x y p q = verdict-of-fixed x y (p ∙ sym q)
 
 -- the sheet's length

@@ -1,6 +1,5 @@
 -- From the bytes of the sheets to the verdict and to the sheet sent, step by step as the code goes.
 use mathlib.Core.Path.{_≡_, sym, ap, _∙_}
-use mathlib.Core.Logic.{_↔_}
 use mathlib.Core.List.{List}
 use Prim.Native.Nat.{ℕ, _*_, _≤_}
 use native.Mathlib.Omega.{arith}
@@ -14,7 +13,7 @@ use Rattle.sheets.specs.Demand3.{accepts}
 use Rattle.learning.specs.Learner as learner
 use Rattle.learning.specs.Learner.{Learnt, done, unfinished, tableSize, learn}
 use Rattle.report.specs.ReportLaws.{SmallIfDone}
-use Rattle.report.specs.Desk.{Verdict, machineRefused, judged, readJudged, verdict, lengthOf, sending, readSent, send}
+use Rattle.report.specs.Desk.{machineRefused, judged, readJudged, verdict, lengthOf, sending, readSent, send}
 
 module _ (machine proof area : List ℕ) (answer : Answer Size) (was : record { answer = answer; area = area } ≡ readMachine machine (zeros 576)) where
   said : verdict machine proof ≡ readJudged answer area proof

@@ -13,21 +13,20 @@ use Rattle.machine.specs.Lent.{link, lentCheck}
 use Rattle.learning.specs.Learner.{tableSize, sheetSize, learn}
 use Rattle.learning.specs.Finished.{sheetOf, modelOn}
 use Rattle.sheets.specs.Reading.{Parsed, bad, good}
-use Rattle.sheets.specs.Machines.{Sheet, Left, machineSheet, readLeaves, readMachine}
+use Rattle.sheets.specs.Machines.{Sheet, Left, machineSheet}
 use Rattle.sheets.specs.MachineSteps.{sheet-were}
 use Rattle.sheets.specs.MachineLaws.{written-reads}
 use Rattle.sheets.specs.Proofs.{Counts, proofSheet}
 use Rattle.sheets.specs.Places.{laid}
 use Rattle.sheets.specs.Checker.{modelOf, check}
 use Rattle.sheets.specs.Demand3 as checker
-use Rattle.report.specs.Desk.{Verdict, accepted, machineRefused, proofRefused, judged, verdict, lengthOf, sending, send}
-use Rattle.report.specs.Reading.{sheet-read, sheet-words, always-done}
+use Rattle.report.specs.Desk.{accepted, machineRefused, judged, verdict, lengthOf, sending, send}
+use Rattle.report.specs.Reading.{sheet-refused, sheet-read, sheet-words, always-done}
 use Rattle.report.specs.DeskLaws.{machine-refused, proof-judged, learnt-sent}
 
 -- a machine sheet that cannot be read is refused as the reader does; else the verdict is the checker's, of the machine that it says
 bad-says : (machine proof : List ℕ) (x : ℕ) → machineSheet machine ≡ bad x → verdict machine proof ≡ machineRefused x
-unfolding readMachine readLeaves
-bad-says machine proof x e = machine-refused machine proof (zeros 576) (refused x) (ap (λ (p : Parsed Sheet). readLeaves p (zeros 576)) (sym e)) x refl
+bad-says machine proof x e = machine-refused machine proof _ _ (sheet-refused machine x e) x refl
 
 good-says : (machine proof rest : List ℕ) (s : Sheet) → machineSheet machine ≡ good s rest
     → verdict machine proof ≡ judged (getD proof 2 0) (check (s .n) (s .k) (s .words) proof)

@@ -1,11 +1,12 @@
 -- What the program `learn` prints means: its lines are those of a smallest model of the machine on the sheet.
 use mathlib.Core.Path.{_≡_, refl, sym, ap, ap₂, _∙_, subst}
+use mathlib.Core.Logic.{_⊎_, inl, inr}
 use mathlib.Core.List.{List, [], _++_}
 use Prim.Native.Nat.{ℕ, zero, suc, _+_, _*_, _/_, _%_, _≤_, _<_}
 use native.Mathlib.Nat.{div-lt-iff-lt-mul, mod-lt, suc-mul, mul-le-mul-right}
 use native.Mathlib.Omega.{arith}
 use lib.ListN.{length, getD, length-replicate, List·getD-append}
-use Rattle.rules.specs.Words.{below-at}
+use Rattle.rules.specs.Words.{Below, below-at}
 use Rattle.rules.specs.Machine.{Machine, lent, SmallestModel, ByLeastWords}
 use Rattle.rules.specs.Links.{stopped}
 use Rattle.rules.specs.Sheets.{Proof, machineBytes, proofBytes}
@@ -14,19 +15,20 @@ use Rattle.rules.specs.Answer.{Answer, gives}
 use Rattle.machine.specs.Lent.{link, lentCheck}
 use Rattle.machine.specs.LentLaws.{lent-sound}
 use Rattle.finish.specs.Sheet.{numberedSheet}
-use Rattle.learning.specs.Learner.{Counts, Learnt, Left, tableSize, sheetSize, finished, learn}
+use Rattle.learning.specs.Learner.{Counts, Learnt, tableSize, sheetSize, finished, learn}
 use Rattle.learning.specs.Outcomes.{at-done, ended}
 use Rattle.learning.specs.Proper.{sound-proper}
 use Rattle.learning.specs.Finished.{sheetOf, modelOn}
 use Rattle.learning.specs.Demand2.{Figures, done-sheet, done-model, done-numbered, done-states, done-figures}
-use Rattle.sheets.specs.Machines.{Sheet}
-use Rattle.sheets.specs.MachineLaws.{written-reads}
+use Rattle.sheets.specs.Reading.{Parsed, bad, good}
+use Rattle.sheets.specs.Machines.{Sheet, machineSheet}
+use Rattle.sheets.specs.MachineLaws.{written-reads, read-was}
 use Rattle.sheets.specs.Places.{laid, model-at}
 use Rattle.sheets.specs.Seen.{Seen}
 use Rattle.sheets.specs.SeenLaws.{seen-reads, seen-bytes}
 use Rattle.sheets.specs.SmallestSheets.{learner-seen}
-use Rattle.report.specs.Report.{line, modelMark, pairLine, pairLines, model, told, toldOf, report}
-use Rattle.report.specs.Reading.{read-says, sheet-read, sheet-words, always-done}
+use Rattle.report.specs.Report.{line, modelMark, refusal, pairLine, pairLines, model, told, toldOf, report}
+use Rattle.report.specs.Reading.{sheet-refused, sheet-read, sheet-words, refused-says, read-says, always-done}
 
 -- ---- the text of a machine N over k letters
 -- state, letter, output and next: the line of the step number i
@@ -85,39 +87,67 @@ sheet-letters : (k : ℕ) (M : Machine) (R : ℕ) → sheetOf k M R .k ≡ k
 unfolding finished numberedSheet
 sheet-letters k M R = refl
 
--- PRINTED. For each machine within the limits, what `learn` prints for its sheet is the text of a machine N: a line with `model`, the states
--- of N, the letters, the rounds and the cells; then for each state and each letter of N, in order, a line with state, letter, output and
--- next. N is a smallest model of the machine, and its states are numbered by the least words that reach them. The rounds and the cells are
--- those of the table where the rounds stop.
-pub printed : (n k : ℕ) (words : List ℕ) → lentCheck n k words ≡ gives tt
-    → let M = link n k words in
-    let P = sheetOf k M 47 in
-    let N = modelOn k P in
-    (c : Counts) × (report (machineBytes n k words) ≡ modelText k N c) × SmallestModel k M N × ByLeastWords k N (P .reaching) × Figures n k (stopped k M 47) c
+-- ---- what is printed
+-- the proof sheet of a lent machine, and the model on it
+abbrev pub sheetFor : ℕ → ℕ → List ℕ → Proof
+sheetFor n k words = sheetOf k (link n k words) 47
+
+abbrev pub modelFor : ℕ → ℕ → List ℕ → Machine
+modelFor n k words = modelOn k (sheetFor n k words)
+
+-- A text is the one of a machine N, `modelFor`: a line with `model`, the states of N, the letters, the rounds and the cells; then for each state
+-- and each letter of N, in order, a line with state, letter, output and next.
+pub record Printed (n k : ℕ) (words text : List ℕ) : Type 0 where
+  pub counts : Counts
+  pub is : text ≡ modelText k (modelFor n k words) counts
+  -- N is a smallest model of the machine,
+  pub smallest : SmallestModel k (link n k words) (modelFor n k words)
+  -- its states are numbered by the least words that reach them,
+  pub numbered : ByLeastWords k (modelFor n k words) (sheetFor n k words .reaching)
+  -- and the rounds and the cells are those of the table where the rounds stop
+  pub figures : Figures n k (stopped k (link n k words) 47) counts
+
+-- PRINTED. For the sheet of each machine within the limits `learn` prints the text of such a model ..
+pub printed : (n k : ℕ) (words : List ℕ) → lentCheck n k words ≡ gives tt → Printed n k words (report (machineBytes n k words))
 unfolding zeros
 printed n k words sound =
-    let M = link n k words in
-    let P = sheetOf k M 47 in
     let bytes = machineBytes n k words in
     let s : Sheet = record { n = n; k = k; words = words } in
     let reads = written-reads n k words sound in
     let table = zeros tableSize in
     let area = zeros sheetSize in
     let left = learn n k words 48 47 table area in
-    let a = always-done n k words table area sound (omega (arith, length-replicate {A = ℕ} tableSize 0)) (omega (arith, length-replicate {A = ℕ} sheetSize 0)) in
+    let room = length-replicate {A = ℕ} tableSize 0 in
+    let a = always-done n k words table area sound (omega arith) (omega (arith, length-replicate {A = ℕ} sheetSize 0)) in
     let asked = a .0 in
     let c = a .1 .0 in
-    let is = a .1 .1 in
-    let closed = at-done (ended n k words 48 47 table area asked) is .closed in
+    let done = a .1 .1 in
+    let closed = at-done (ended n k words 48 47 table area asked) done .closed in
     let seen = learner-seen (sound-proper (lent-sound n k words sound)) 47 closed in
-    let says : report bytes ≡ toldOf k left =
-    read-says bytes _ _ (sheet-read bytes [] s reads) _ left refl (ap (λ (w : List ℕ). learn n k w 48 47 table area) (sym (sheet-words bytes [] s reads))) in
-    let text : report bytes ≡ modelText k (modelOn k P) c =
-    says ∙ ap₂ (λ (answer : Answer Learnt) (sheet : List ℕ). told k answer sheet) is (done-sheet n k words 48 47 table area asked c is)
-    ∙ model-same P seen area k (sheet-letters k M 47) c (done-states n k words 48 47 table area asked c is) in (
-      c,
-      text,
-      done-model n k words 48 47 table area asked c is,
-      done-numbered n k words 48 47 table area asked c is,
-      done-figures n k words 48 47 table area asked c is,
-    )
+    let same = ap (λ (w : List ℕ). learn n k w 48 47 table area) (sym (sheet-words bytes [] s reads)) in
+    let says : report bytes ≡ toldOf k left = read-says bytes _ _ (sheet-read bytes [] s reads) _ left refl same in
+    record {
+      counts = c;
+      is =
+          says ∙ ap₂ (λ (answer : Answer Learnt) (sheet : List ℕ). told k answer sheet) done (done-sheet n k words 48 47 table area asked c done)
+          ∙ model-same (sheetFor n k words) seen area k (sheet-letters k (link n k words) 47) c (done-states n k words 48 47 table area asked c done);
+      smallest = done-model n k words 48 47 table area asked c done;
+      numbered = done-numbered n k words 48 47 table area asked c done;
+      figures = done-figures n k words 48 47 table area asked c done;
+    }
+
+-- .. and so it is with all bytes: a sheet that cannot be read has a refusal's line, with the reader's number, and each other one says a
+-- machine, whose text this is.
+pub all-printed : (bytes : List ℕ) → Below 256 bytes
+    → ((x : ℕ) × (machineSheet bytes ≡ bad x) × (report bytes ≡ refusal x))
+    ⊎ ((s : Sheet) × (machineSheet bytes ≡ good s []) × Printed (s .n) (s .k) (s .words) (report bytes))
+all-printed bytes b = go (machineSheet bytes) refl
+  where
+    go : (p : Parsed Sheet) → machineSheet bytes ≡ p
+        → ((x : ℕ) × (machineSheet bytes ≡ bad x) × (report bytes ≡ refusal x))
+        ⊎ ((s : Sheet) × (machineSheet bytes ≡ good s []) × Printed (s .n) (s .k) (s .words) (report bytes))
+    go (bad x) e = inl (x, e, refused-says bytes _ _ (sheet-refused bytes x e) x refl)
+    go (good s rest) e =
+        let was = read-was bytes rest s b e in
+        let text = printed (s .n) (s .k) (s .words) (was .2) in
+        inr (s, e ∙ ap (good s) (was .0), subst (λ (bytes : List ℕ). Printed (s .n) (s .k) (s .words) (report bytes)) (sym (was .1)) text)

@@ -26,7 +26,12 @@ use Rattle.sheets.specs.WordSteps.{clash}
 use Rattle.report.specs.Report.{refusal, toldOf, readTold, report}
 use Rattle.report.specs.ReportLaws.{Small, SmallIfDone}
 
--- a sheet that says a machine is read as its n, its k and its words
+-- a sheet that cannot be read is refused; one that says a machine is read as its n, its k and its words
+pub sheet-refused : (bytes : List ℕ) (x : ℕ) → machineSheet bytes ≡ bad x
+    → record { answer = refused x; area = zeros 576 } ≡ readMachine bytes (zeros 576)
+unfolding readMachine readLeaves
+sheet-refused bytes x e = ap (λ (p : Parsed Sheet). readLeaves p (zeros 576)) (sym e)
+
 module _ (bytes rest : List ℕ) (s : Sheet) (e : machineSheet bytes ≡ good s rest) where
   pub sheet-read : record { answer = gives (record { n = s .n; k = s .k }); area = over (s .words) (zeros 576) } ≡ readMachine bytes (zeros 576)
   unfolding zeros
@@ -87,16 +92,19 @@ small-done n k words L R table sheet l is = go (learnCheck n k words L R table s
     go (gives u) asked (gives (unfinished c)) e = tt
 
 -- With 48 states and 47 rounds allowed, sound words are learnt: S has no more words than there are states, so 10 is never given.
-module _ (n k : ℕ) (words table sheet : List ℕ) (sound : lentCheck n k words ≡ gives tt) (t : tableSize ≤ length table) (s : sheetSize ≤ length sheet) where
+module _ (n k : ℕ) (words table sheet : List ℕ) (sound : lentCheck n k words ≡ gives tt) (t : tableSize ≤ length table)
+    (s : sheetSize ≤ length sheet) where
   asked : learnCheck n k words 48 47 table sheet ≡ gives tt
   unfolding learnCheck
   asked = rw (sound, le-leb tableSize (length table) t, le-leb sheetSize (length sheet) s)
 
+  abbrev said-done : Type 0
+  said-done = (c : Counts) × (learn n k words 48 47 table sheet .answer ≡ gives (done c))
+
   pub always-done : (learnCheck n k words 48 47 table sheet ≡ gives tt) × ((c : Counts) × (learn n k words 48 47 table sheet .answer ≡ gives (done c)))
   always-done = (asked, go (done-or-ten n k words 48 table sheet asked))
     where
-      go : ((c : Counts) × (learn n k words 48 47 table sheet .answer ≡ gives (done c))) ⊎ (learn n k words 48 47 table sheet .answer ≡ refused 10)
-          → (c : Counts) × (learn n k words 48 47 table sheet .answer ≡ gives (done c))
+      go : said-done ⊎ (learn n k words 48 47 table sheet .answer ≡ refused 10) → said-done
       go (inl d) = d
       go (inr e) =
           let many = ten-when n k words 48 47 table sheet asked .0 e in

@@ -1,4 +1,5 @@
-// What the program `learn` prints: the model's lines, or a refusal's one line, put into a lent area.
+// What the desk programs say. Here it is the text of `learn`, the model's lines or a refusal's one line, put into a lent area; `send` has what
+// `proof` sends, and `verdict` what `accept` says.
 ghost use mathlib.Core.Path.{_≡_};
 ghost use Prim.Native.Nat.{_+_, _*_, _<_, _≤_};
 ghost use lib.ListN.{length};

@@ -30,7 +30,8 @@ fn hand_on(answer: Learnt) -> Sent
 
 // The machine is learnt with the largest limits into the area. A refusal leaves it.
 pub fn send(machine: &[u8], area: &mut [u8]) -> Sent
-    ensures { λ r. ⌜ (record { answer = sentOf r; area = now (area .exit) } ≡ desk.send (now (machine .entry)) (now (area .entry))) × Short (sentOf r) ⌝ }
+    ensures { λ r. ⌜ record { answer = sentOf r; area = now (area .exit) } ≡ desk.send (now (machine .entry)) (now (area .entry)) ⌝ }
+    ensures { λ r. ⌜ Short (sentOf r) ⌝ }
 {
     let mut words = [0u16; 576];
     match machines::read(machine, &mut words) {

@@ -14,6 +14,10 @@ pub record Put (at : ℕ) (bytes old : List ℕ) (end : ℕ) (new : List ℕ) : 
 pub put-nothing : (at : ℕ) (area : List ℕ) → Put at [] area at area
 put-nothing at area = record { ends = omega arith; is = sym (put-none at area) }
 
+-- it fixes the place and the new area: two that meet it are equal
+pub put-fixed : {at end end′ : ℕ} {bytes old new new′ : List ℕ} → Put at bytes old end new → Put at bytes old end′ new′ → (end ≡ end′) × (new ≡ new′)
+put-fixed p q = (p .ends ∙ sym (q .ends), p .is ∙ sym (q .is))
+
 -- the area keeps its length
 pub put-same : {at end : ℕ} {bytes old new : List ℕ} → at + length bytes ≤ length old → Put at bytes old end new → length new ≡ length old
 put-same {at = at} {bytes = bytes} {old = old} h p = ap length (p .is) ∙ put-length at bytes old h

@@ -14,7 +14,9 @@ use Rattle.report.proofs.send.send.Tie as tie
 -- n and k are in their ranges
 sized : (c : tie.After-known-told2) → let s = c .before .n .given .0 in s .0 * s .1 .0 ≤ 576
 unfolding zeros
-sized c = let z = read-sized _ _ _ (c .before .before .before .before .read .ensures) _ (ap readOf (c .before .n .given .1)) in mul-le-mul (z .0) (z .2)
+sized c =
+    let z = read-sized _ _ _ (c .before .before .before .before .read .ensures) _ (ap readOf (c .before .n .given .1)) in
+    mul-le-mul (z .0) (z .2)
 
 slice-aggregate-read : tie.Need-slice-aggregate-read
 slice-aggregate-read c = search needs
@@ -56,8 +58,11 @@ same-length c = search needs
 returns-2 : tie.Need-returns-2
 unfolding zeros
 returns-2 c =
-    let l = c .before .before .before .before .learn .ensures in
-    rw (c .hand-on .ensures) (sym (learnt-sent _ _ _ _ (c .before .before .before .before .before .before .before .before .before .before .before .before .read .ensures) _ _ (ap readOf (c .before .before .before .before .before .before .before .before .before .n .given .1)) l), sent-short (learnt (c .before .before .before .before .learn .result)) (small-done _ _ _ _ _ _ _ _ l))
+    let read = c .before .before .before .before .before .before .before .before .before .before .before .before .read .ensures in
+    let size = ap readOf (c .before .before .before .before .before .before .before .before .before .n .given .1) in
+    let left = c .before .before .before .before .learn .ensures in
+    let short = sent-short (learnt (c .before .before .before .before .learn .result)) (small-done _ _ _ _ _ _ _ _ left) in
+    rw (c .hand-on .ensures) (sym (learnt-sent _ _ _ _ read _ _ size left), short)
 
 pub send-spec : {M : Type 1} → statement M
 send-spec =

@@ -14,7 +14,9 @@ use Rattle.report.proofs.verdict.verdict_on.Tie as tie
 -- n and k are in their ranges
 sized : (c : tie.After-known-told2) → let s = c .before .n .given .0 in s .0 * s .1 .0 ≤ 576
 unfolding zeros
-sized c = let z = read-sized _ _ _ (c .before .before .before .before .read .ensures) _ (ap readOf (c .before .n .given .1)) in mul-le-mul (z .0) (z .2)
+sized c =
+    let z = read-sized _ _ _ (c .before .before .before .before .read .ensures) _ (ap readOf (c .before .n .given .1)) in
+    mul-le-mul (z .0) (z .2)
 
 slice-aggregate-read : tie.Need-slice-aggregate-read
 slice-aggregate-read c = search needs
@@ -47,7 +49,9 @@ enum-told : tie.Need-enum-told
 enum-told c = search needs
 
 shared-slice-read-wide : tie.Need-shared-slice-read-wide
-shared-slice-read-wide c = let l = accepted-long _ _ _ _ (sym (c .before .before .before .check .ensures) ∙ ap checked (c .before .enum-told .given .1)) in search needs
+shared-slice-read-wide c =
+    let l = accepted-long _ _ _ _ (sym (c .before .before .before .check .ensures) ∙ ap checked (c .before .enum-told .given .1)) in
+    search needs
 
 wide-requires : tie.Need-wide-requires
 wide-requires c κs = search needs
@@ -58,11 +62,18 @@ returns c = sym (machine-refused _ _ _ _ (c .before .before .before .before .rea
 
 returns-2 : tie.Need-returns-2
 unfolding zeros
-returns-2 c = sym (proof-judged _ _ _ _ (c .before .before .before .before .before .before .before .before .before .read .ensures) _ _ (ap readOf (c .before .before .before .before .before .before .n .given .1)) (sym (ap checked (c .before .r2 .given .1)) ∙ c .before .before .before .check .ensures))
+returns-2 c =
+    let read = c .before .before .before .before .before .before .before .before .before .read .ensures in
+    let size = ap readOf (c .before .before .before .before .before .before .n .given .1) in
+    sym (proof-judged _ _ _ _ read _ _ size (sym (ap checked (c .before .r2 .given .1)) ∙ c .before .before .before .check .ensures))
 
 returns-3 : tie.Need-returns-3
 unfolding zeros
-returns-3 c = rw (c .wide .ensures) (sym (proof-judged _ _ _ _ (c .before .before .before .before .before .before .before .before .before .before .read .ensures) _ _ (ap readOf (c .before .before .before .before .before .before .before .n .given .1)) (sym (ap checked (c .before .before .enum-told .given .1)) ∙ c .before .before .before .before .check .ensures)))
+returns-3 c =
+    let read = c .before .before .before .before .before .before .before .before .before .before .read .ensures in
+    let size = ap readOf (c .before .before .before .before .before .before .before .n .given .1) in
+    let is = sym (ap checked (c .before .before .enum-told .given .1)) ∙ c .before .before .before .before .check .ensures in
+    rw (c .wide .ensures) (sym (proof-judged _ _ _ _ read _ _ size is))
 
 pub verdict-on-spec : {M : Type 1} → statement M
 verdict-on-spec =
