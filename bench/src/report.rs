@@ -7,6 +7,9 @@ use crate::timing;
 use std::collections::HashMap;
 use std::fmt::Write;
 
+/// Passes over all machines, so that what else the computer does at one time weighs little.
+const PASSES: usize = 5;
+
 /// What one machine costs, by operation; each pair is ours and the second program's.
 pub struct Row {
     pub kind: Kind,
@@ -14,38 +17,58 @@ pub struct Row {
     pub k: usize,
     rounds: usize,
     cells: usize,
+    /// The median of the passes.
     pub nanoseconds: [[f64; 2]; 3],
+    /// How much more the slowest pass took than the quickest, in percent.
+    spread: [[f64; 2]; 3],
     instructions: [[Option<f64>; 2]; 3],
 }
 
 pub fn measure(counts: &HashMap<String, f64>) -> Vec<Row> {
-    let mut rows = Vec::new();
+    let mut subjects = Vec::new();
     for kind in Kind::ALL {
         for k in LETTERS {
-            for n in STATES {
-                rows.push(row(&mut Subject::new(kind, n, k), counts));
-            }
+            subjects.extend(STATES.map(|n| Subject::new(kind, n, k)));
         }
     }
-    rows
+    let passes: Vec<Vec<[[f64; 2]; 3]>> = (0..PASSES)
+        .map(|_| subjects.iter_mut().map(pass).collect())
+        .collect();
+    let rows = subjects.iter().enumerate();
+    rows.map(|(number, subject)| {
+        let of_subject: Vec<[[f64; 2]; 3]> = passes.iter().map(|pass| pass[number]).collect();
+        row(subject, &of_subject, counts)
+    })
+    .collect()
 }
 
-fn row(subject: &mut Subject, counts: &HashMap<String, f64>) -> Row {
-    let counted = |operation| {
-        Side::ALL.map(|side| {
-            let label = counting::label(subject, operation, side);
-            counts.get(&label).copied()
-        })
+fn pass(subject: &mut Subject) -> [[f64; 2]; 3] {
+    Operation::ALL.map(|operation| timing::nanoseconds(subject, operation))
+}
+
+fn row(subject: &Subject, passes: &[[[f64; 2]; 3]], counts: &HashMap<String, f64>) -> Row {
+    let sorted = |operation: usize, side: usize| {
+        let mut times: Vec<f64> = passes.iter().map(|pass| pass[operation][side]).collect();
+        times.sort_by(f64::total_cmp);
+        times
     };
-    let instructions = Operation::ALL.map(counted);
+    let counted = |operation, side| counts.get(&counting::label(subject, operation, side));
     Row {
         kind: subject.kind,
         n: subject.machine.n,
         k: subject.machine.k,
         rounds: subject.rounds,
         cells: subject.cells,
-        nanoseconds: Operation::ALL.map(|operation| timing::nanoseconds(subject, operation)),
-        instructions,
+        nanoseconds: [0, 1, 2]
+            .map(|operation| [0, 1].map(|side| sorted(operation, side)[PASSES / 2])),
+        spread: [0, 1, 2].map(|operation| {
+            [0, 1].map(|side| {
+                let times = sorted(operation, side);
+                100.0 * (times[PASSES - 1] / times[0] - 1.0)
+            })
+        }),
+        instructions: Operation::ALL
+            .map(|operation| Side::ALL.map(|side| counted(operation, side).copied())),
     }
 }
 
@@ -58,8 +81,7 @@ measures the proved operations and the second program's on the same machines, in
 number here is from that run.
 
 - **Machines**: of each size a *random* one (two outputs, its smallest model has n states) and a *ring* (letter 0 goes round, the others
-  stay, one state shows itself), which takes n - 2 rounds and has long
-  counterexamples.
+  stay, one state shows itself), which takes n - 2 rounds and has long counterexamples.
 - **Learning** is with L = 48 and R = 47, always Done. **Checking** is of the proof sheet that learning left, which is accepted.
   **Reading** is of the machine sheet, and then of that proof sheet. Before anything is measured, both sides' answers and the bytes of every area
   are held against each other.
@@ -87,9 +109,7 @@ pub fn page(rows: &[Row], stack: &str, setting: &str) -> String {
         page,
         "- Run on {setting}.\n\n![cost against size](benchmark.svg)\n"
     );
-    page.push_str(
-        "\n## Time\n\nMicroseconds of one call: the median of 15 to 2,000, both sides in turn, every area cleared before each.\n\n",
-    );
+    let _ = write!(page, "\n## Time\n\n{}\n", time_words(rows));
     table(&mut page, rows, |row, operation, side| {
         significant(row.nanoseconds[operation][side] / 1e3)
     });
@@ -108,6 +128,19 @@ pub fn page(rows: &[Row], stack: &str, setting: &str) -> String {
         let _ = writeln!(page, "| `trachuliem_{operation}` | {bytes} |");
     }
     page
+}
+
+/// How the times were taken, and how far the passes lay apart.
+fn time_words(rows: &[Row]) -> String {
+    let spreads = rows.iter().flat_map(|row| row.spread.iter().flatten());
+    let mut spreads: Vec<f64> = spreads.copied().collect();
+    spreads.sort_by(f64::total_cmp);
+    let (half, most) = (spreads[spreads.len() / 2], spreads[spreads.len() - 1]);
+    format!(
+        "Microseconds of one call. A pass takes the median of 15 to 2,000 calls, both sides in turn, every area cleared before each; shown is the\n\
+         median of {PASSES} passes over all machines. Between a cost's slowest and quickest pass lay {half:.0} % or less for half of the costs, and at most\n\
+         {most:.0} %.\n"
+    )
 }
 
 /// A line for each machine, and for each operation ours, second and how many times ours second is.

@@ -6,7 +6,7 @@ use std::time::{Duration, Instant};
 const FEWEST: usize = 15;
 const MOST: usize = 2000;
 /// After the fewest calls no more are begun once this has passed.
-const ENOUGH: Duration = Duration::from_millis(150);
+const ENOUGH: Duration = Duration::from_millis(50);
 
 /// Nanoseconds of one call, ours and the second program's.
 pub fn nanoseconds(subject: &mut Subject, operation: Operation) -> [f64; 2] {
