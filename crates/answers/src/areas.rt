@@ -3,19 +3,19 @@ ghost use Prim.Native.Nat.{_*_, _<_, _≤_};
 ghost use lib.ListN.{length};
 
 // The number of two bytes.
-pub fn number(low: u8, high: u8) -> usize
+pub(crate) fn number(low: u8, high: u8) -> usize
     ensures { λ r. ⌜ r < 65536 ⌝ }
 {
     (low as usize) + 256 * (high as usize)
 }
 
 // The low byte of a number.
-pub fn low(x: usize) -> u8 {
+pub(crate) fn low(x: usize) -> u8 {
     (x % 256) as u8
 }
 
 // The byte above it.
-pub fn high(x: usize) -> u8 {
+pub(crate) fn high(x: usize) -> u8 {
     (x / 256 % 256) as u8
 }
 
@@ -30,7 +30,7 @@ fn noise(i: usize, area: u8, seed: u8) -> u8 {
 }
 
 // Fills an area of bytes.
-pub fn fill(bytes: &mut [u8], area: u8, seed: u8) {
+pub(crate) fn fill(bytes: &mut [u8], area: u8, seed: u8) {
     let mut i: usize = 0;
     while i < bytes.len() {
         bytes[i] = noise(i, area, seed);
@@ -39,7 +39,7 @@ pub fn fill(bytes: &mut [u8], area: u8, seed: u8) {
 }
 
 // Takes words from their bytes.
-pub fn take_words(words: &mut [u16], bytes: &[u8])
+pub(crate) fn take_words(words: &mut [u16], bytes: &[u8])
     requires { ⌜ length (now words) * 2 ≤ length (now bytes) ⌝ }
 {
     let mut i: usize = 0;
@@ -63,7 +63,7 @@ fn put_words(bytes: &mut [u8], words: &[u16])
 }
 
 // Fills an area of words.
-pub fn fill_words(words: &mut [u16], area: u8, seed: u8)
+pub(crate) fn fill_words(words: &mut [u16], area: u8, seed: u8)
     requires { ⌜ length (now words) ≤ 600 ⌝ }
 {
     let mut bytes = [0u8; 1200];
@@ -72,7 +72,7 @@ pub fn fill_words(words: &mut [u16], area: u8, seed: u8)
 }
 
 // Writes the bytes of words.
-pub fn write_words(words: &[u16]) -> bool
+pub(crate) fn write_words(words: &[u16]) -> bool
     requires { ⌜ length (now words) ≤ 600 ⌝ }
 {
     let mut bytes = [0u8; 1200];
