@@ -139,7 +139,7 @@ fn time_words(rows: &[Row]) -> String {
     format!(
         "Microseconds of one call. A pass takes the median of 15 to 2,000 calls, both sides in turn, every area cleared before each; shown is the\n\
          median of {PASSES} passes over all machines. Between a cost's slowest and quickest pass lay {half:.0} % or less for half of the costs, and at most\n\
-         {most:.0} %.\n"
+         {most:.0} %. Calls of over 100 microseconds are timed by the processor time of the thread, shorter ones by the clock.\n"
     )
 }
 
