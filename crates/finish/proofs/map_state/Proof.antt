@@ -17,10 +17,19 @@ cast-result : tie.Need-cast-result
 cast-result c = search needs
 
 returns : tie.Need-returns
-returns c = let a = c .before .before .before .before .before .before .args in mapped-here (c .before .before .before .before .before .before .pre .0) (a .states .now) (a .reach .now) (a .found) (a .state) (c .before .before .before .place .result) (omega (arith, c .before .before .before .before .before .before .pre .1 .0, c .before .before .before .before .before .before .pre .1 .1)) (c .before .before .before .place .ensures) (c .before .slot-state .result) (c .place2 .result) (c .before .before .if1 .taken) (c .before .slot-state .ensures) (c .place2 .ensures)
+returns c =
+    let c6 = c .before .before .before .before .before .before in
+    let a = c6 .args in
+    mapped-here (c6 .pre .0) (a .states .now) (a .reach .now) (a .found) (a .state) (c .before .before .before .place .result)
+    (omega (arith, c6 .pre .1 .0, c6 .pre .1 .1)) (c .before .before .before .place .ensures) (c .before .slot-state .result) (c .place2 .result)
+    (c .before .before .if1 .taken) (c .before .slot-state .ensures) (c .place2 .ensures)
 
 returns-2 : tie.Need-returns-2
-returns-2 c = let a = c .before .before .before .before .args in mapped-none (c .before .before .before .before .pre .0) (a .states .now) (a .reach .now) (a .found) (a .state) (c .before .place .result) (omega (arith, c .before .before .before .before .pre .1 .0, c .before .before .before .before .pre .1 .1)) (c .before .place .ensures) (c .if1 .left)
+returns-2 c =
+    let a = c .before .before .before .before .args in
+    mapped-none (c .before .before .before .before .pre .0) (a .states .now) (a .reach .now) (a .found) (a .state) (c .before .place .result)
+    (omega (arith, c .before .before .before .before .pre .1 .0, c .before .before .before .before .pre .1 .1)) (c .before .place .ensures)
+    (c .if1 .left)
 
 pub map-state-spec : {M : Type 1} → statement M
 map-state-spec =

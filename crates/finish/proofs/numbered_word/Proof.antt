@@ -15,7 +15,9 @@ here c = let N = c .before .pre .0 in (div-lt-iff-lt-mul (N .k-low) .1 (c .befor
 
 -- and its word is within the model
 within : (c : tie.After-state) → let a = c .before .before .args in getD (a .order .now) (a .i / a .k) 0 * a .k + a .i % a .k < length (a .model .now)
-within c = let a = c .before .before .args in numbers-low (c .before .before .pre .0) (a .i / a .k) (a .i % a .k) (here (c .before) .0) (mod-lt (a .i) (c .before .before .pre .0 .k-low))
+within c =
+    let a = c .before .before .args in
+    numbers-low (c .before .before .pre .0) (a .i / a .k) (a .i % a .k) (here (c .before) .0) (mod-lt (a .i) (c .before .before .pre .0 .k-low))
 
 div-state : tie.Need-div-state
 div-state c = search needs
@@ -39,10 +41,19 @@ output-requires : tie.Need-output-requires
 output-requires c κs = within (c .before .before)
 
 word-requires : tie.Need-word-requires
-word-requires c κs = let N = c .before .before .before .before .before .pre .0 in omega (arith, c .before .place .ensures, numbers-place-few N (c .before .before .next .result))
+word-requires c κs =
+    let c5 = c .before .before .before .before .before in
+    let N = c5 .pre .0 in
+    omega (arith, c .before .place .ensures, numbers-place-few N (c .before .before .next .result))
 
 returns : tie.Need-returns
-returns c = let a = c .before .before .before .before .before .before .args in let N = c .before .before .before .before .before .before .pre .0 in c .word .ensures ∙ ap (λ (x : ℕ). 256 * c .before .before .place .result + x) (c .before .output .ensures) ∙ numbers-word N (a .i) (c .before .before .place .result) (c .before .before .before .before .before .before .pre .1) (c .before .before .place .ensures ∙ ap (numbering.place (take (a .count) (a .order .now))) (c .before .before .before .next .ensures))
+returns c =
+    let c6 = c .before .before .before .before .before .before in
+    let a = c6 .args in
+    let N = c6 .pre .0 in
+    c .word .ensures ∙ ap (λ (x : ℕ). 256 * c .before .before .place .result + x) (c .before .output .ensures) ∙ numbers-word N (a .i)
+    (c .before .before .place .result) (c6 .pre .1)
+    (c .before .before .place .ensures ∙ ap (numbering.place (take (a .count) (a .order .now))) (c .before .before .before .next .ensures))
 
 pub numbered-word-spec : {M : Type 1} → statement M
 numbered-word-spec =

@@ -17,7 +17,9 @@ abbrev μ-loop : tie.MeasureT-loop
 μ-loop order count x j₀ j = count - j
 
 loop-holds : tie.Need-loop-holds Inv-loop μ-loop
-loop-holds c = let a = c .args in (search needs, place-first (a .order .now) (a .count) (a .x) (omega arith) ∙ sym (seek-starts (isAt (a .order .now) (a .x)) (a .count)))
+loop-holds c =
+    let a = c .args in
+    (search needs, place-first (a .order .now) (a .count) (a .x) (omega arith) ∙ sym (seek-starts (isAt (a .order .now) (a .x)) (a .count)))
 
 mul-if1 : tie.Need-mul-if1 Inv-loop μ-loop
 mul-if1 c = search needs
@@ -26,7 +28,10 @@ element-copy-out-if1 : tie.Need-element-copy-out-if1 Inv-loop μ-loop
 element-copy-out-if1 c = search needs
 
 returns : tie.Need-returns Inv-loop μ-loop
-returns c = let a = c .before .before .before .before .args in let l = c .before .before .before .loop in sym (l .inv .1 ∙ seek-hits (isAt (a .order .now) (a .x)) (a .count) (l .j) (search needs) (eq-eqb _ _ (c .if1 .taken)))
+returns c =
+    let a = c .before .before .before .before .args in
+    let l = c .before .before .before .loop in
+    sym (l .inv .1 ∙ seek-hits (isAt (a .order .now) (a .x)) (a .count) (l .j) (search needs) (eq-eqb _ _ (c .if1 .taken)))
 
 add-j : tie.Need-add-j Inv-loop μ-loop
 add-j c = search needs
@@ -35,10 +40,16 @@ loop-less : tie.Need-loop-less Inv-loop μ-loop
 loop-less c = search needs
 
 loop-again : tie.Need-loop-again Inv-loop μ-loop
-loop-again c = let a = c .before .before .before .before .args in let l = c .before .before .before .loop in (search needs, l .inv .1 ∙ seek-passes (isAt (a .order .now) (a .x)) (a .count) (l .j) (search needs) (ne-eqb _ _ (c .if1 .left)))
+loop-again c =
+    let a = c .before .before .before .before .args in
+    let l = c .before .before .before .loop in
+    (search needs, l .inv .1 ∙ seek-passes (isAt (a .order .now) (a .x)) (a .count) (l .j) (search needs) (ne-eqb _ _ (c .if1 .left)))
 
 returns-2 : tie.Need-returns-2 Inv-loop μ-loop
-returns-2 c = let a = c .before .before .args in let l = c .before .loop in sym (l .inv .1 ∙ seek-ends (isAt (a .order .now) (a .x)) (a .count) (l .j) (search needs))
+returns-2 c =
+    let a = c .before .before .args in
+    let l = c .before .loop in
+    sym (l .inv .1 ∙ seek-ends (isAt (a .order .now) (a .x)) (a .count) (l .j) (search needs))
 
 pub place-spec : {M : Type 1} → statement M
 place-spec =

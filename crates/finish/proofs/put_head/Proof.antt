@@ -40,10 +40,13 @@ same-length : tie.Need-same-length
 same-length c = search needs
 
 returns : tie.Need-returns
-returns c = let a = c .before .before .before .before .before .before .args in
+returns c =
+    let c6 = c .before .before .before .before .before .before in
+    let a = c6 .args in
     let low : (x : ℕ) → x < 256 → x % 256 ≡ x = λ x h. omega arith in
-    ap (λ (l : List ℕ). set (set (set (set l 2 (a .m % 256)) 3 (a .k % 256)) 4 (a .n % 256)) 5 (a .c % 256)) (c .before .before .put-mark .ensures)
-    ∙ rw (low (a .m) (search needs), low (a .k) (search needs), low (a .n) (search needs), low (a .c) (search needs)) (put-head (a .m) (a .k) (a .n) (a .c) (a .sheet .now) (search needs))
+    ap (λ (l : List ℕ). set (set (set (set l 2 (a .m % 256)) 3 (a .k % 256)) 4 (a .n % 256)) 5 (a .c % 256)) (c .before .before .put-mark .ensures) ∙
+    rw (low (a .m) (search needs), low (a .k) (search needs), low (a .n) (search needs), low (a .c) (search needs))
+    (put-head (a .m) (a .k) (a .n) (a .c) (a .sheet .now) (search needs))
 
 pub put-head-spec : {M : Type 1} → statement M
 put-head-spec =

@@ -21,7 +21,14 @@ abbrev μ-loop : tie.MeasureT-loop
 μ-loop sheet₀ at n model m k order count states reach found state₀ sheet state = n - state
 
 loop-holds : tie.Need-loop-holds Inv-loop μ-loop
-loop-holds c = let a = c .before .before .before .args in (search needs, refl, put-from-none-at (mapped (a .k) (link (a .m) (a .k) (a .model .now)) (take (a .found) (a .states .now)) (stored 48 (a .reach .now) (a .found))) (a .at) (a .sheet .now))
+loop-holds c =
+    let a = c .before .before .before .args in (
+      search needs,
+      refl,
+      put-from-none-at
+          (mapped (a .k) (link (a .m) (a .k) (a .model .now)) (take (a .found) (a .states .now)) (stored 48 (a .reach .now) (a .found))) (a .at)
+          (a .sheet .now),
+    )
 
 map-state-requires : tie.Need-map-state-requires Inv-loop μ-loop
 map-state-requires c κs = (c .before .before .before .before .before .pre .0, c .before .before .before .before .before .pre .1 .0)
@@ -39,7 +46,16 @@ loop-less : tie.Need-loop-less Inv-loop μ-loop
 loop-less c = search needs
 
 loop-again : tie.Need-loop-again Inv-loop μ-loop
-loop-again c = let a = c .before .before .before .before .before .before .args in let l = c .before .before .loop in (search needs, simp length-set (l .inv .1), put-from-at (mapped (a .k) (link (a .m) (a .k) (a .model .now)) (take (a .found) (a .states .now)) (stored 48 (a .reach .now) (a .found))) (a .at) (l .state) (c .map-state .result) (l .sheet) (a .sheet .now) (omega arith) (l .inv .2) (c .map-state .ensures))
+loop-again c =
+    let c6 = c .before .before .before .before .before .before in
+    let a = c6 .args in
+    let l = c .before .before .loop in (
+      search needs,
+      simp length-set (l .inv .1),
+      put-from-at
+          (mapped (a .k) (link (a .m) (a .k) (a .model .now)) (take (a .found) (a .states .now)) (stored 48 (a .reach .now) (a .found))) (a .at) (l .state)
+          (c .map-state .result) (l .sheet) (a .sheet .now) (omega arith) (l .inv .2) (c .map-state .ensures),
+    )
 
 same-length : tie.Need-same-length Inv-loop μ-loop
 same-length c = search needs

@@ -17,13 +17,18 @@ use Rattle.finish.proofs.put_model.Tie as tie
 
 -- the numbered words have their room
 few : (c : tie.After-numbered) → c .before .before .before .args .count * c .before .before .before .args .k ≤ 576
-few c = let N = c .before .before .before .pre .0 in words-most (c .before .before .before .args .count) (c .before .before .before .args .k) (omega (arith, numbers-few N, N .m-high)) (N .k-high)
+few c =
+    let N = c .before .before .before .pre .0 in
+    words-most (c .before .before .before .args .count) (c .before .before .before .args .k) (omega (arith, numbers-few N, N .m-high)) (N .k-high)
 
 -- and are read back
 read : (c : tie.After-numbered2) → let a = c .before .before .before .before .before .args in take (a .count * a .k) (c .before .renumber .last .1 .1 .1 .1 .1 .0) ≡ wordsOf 256 (a .k) (renumbered (a .k) (link (a .m) (a .k) (a .model .now)))
-read c = let a = c .before .before .before .before .before .args in
-    ap (take (a .count * a .k)) (c .before .renumber .ensures)
-    ∙ start-taken (a .count * a .k) (wordsOf 256 (a .k) (renumbered (a .k) (link (a .m) (a .k) (a .model .now)))) (replicate 576 0) (numbers-size (c .before .before .before .before .before .pre .0)) (omega (arith, few (c .before .before), length-replicate {A = ℕ} 576 0))
+read c =
+    let c5 = c .before .before .before .before .before in
+    let a = c5 .args in
+    ap (take (a .count * a .k)) (c .before .renumber .ensures) ∙ start-taken (a .count * a .k)
+    (wordsOf 256 (a .k) (renumbered (a .k) (link (a .m) (a .k) (a .model .now)))) (replicate 576 0) (numbers-size (c5 .pre .0))
+    (omega (arith, few (c .before .before), length-replicate {A = ℕ} 576 0))
 
 long : (c : tie.After-numbered2) → let a = c .before .before .before .before .before .args in length (take (a .count * a .k) (c .before .renumber .last .1 .1 .1 .1 .1 .0)) ≡ a .count * a .k
 long c = ap length (read c) ∙ numbers-size (c .before .before .before .before .before .pre .0)
@@ -62,11 +67,16 @@ same-length : tie.Need-same-length
 same-length c = search needs
 
 returns : tie.Need-returns
-returns c = let a = c .before .before .before .before .before .before .before .before .before .before .args in let N = c .before .before .before .before .before .before .before .before .before .before .pre .0 in (
-  ap (λ (n : ℕ). a .at + n) (sym (model-length N)),
-  c .before .before .put-rows .ensures ∙ ap (λ (ws : List ℕ). put (a .at) (rowBytes (a .k) (a .count) ws) (a .sheet .now)) (read (c .before .before .before .before .before))
-      ∙ ap (λ (n : ℕ). put (a .at) (rowBytes (a .k) n (wordsOf 256 (a .k) (renumbered (a .k) (link (a .m) (a .k) (a .model .now))))) (a .sheet .now)) (numbers-states N),
-)
+returns c =
+    let c5 = c .before .before .before .before .before in
+    let c10 = c5 .before .before .before .before .before in
+    let a = c10 .args in
+    let N = c10 .pre .0 in (
+      ap (λ (n : ℕ). a .at + n) (sym (model-length N)),
+      c .before .before .put-rows .ensures ∙ ap
+          (λ (ws : List ℕ). put (a .at) (rowBytes (a .k) (a .count) ws) (a .sheet .now)) (read c5) ∙ ap (λ (n : ℕ). put (a .at)
+          (rowBytes (a .k) n (wordsOf 256 (a .k) (renumbered (a .k) (link (a .m) (a .k) (a .model .now))))) (a .sheet .now)) (numbers-states N),
+    )
 
 pub put-model-spec : {M : Type 1} → statement M
 put-model-spec =

@@ -31,8 +31,12 @@ slice-aggregate-put-map c = search needs
 
 put-map-requires : tie.Need-put-map-requires
 unfolding lent
-put-map-requires c κs = let whole = steps-complete (sound-steps (c .before .before .before .before .before .before .before .before .before .before .before .before .before .before .before .pre .0)) in let N = c .before .before .before .before .before .before .before .before .before .number .ensures in
-    (c .before .before .before .before .before .before .before .before .before .before .before .before .before .before .before .pre .1 .0, ((omega (arith, numbered-few whole N, c .before .before .before .before .before .before .before .before .before .before .before .before .before .before .before .pre .0 .n-high), N .size, numbered-kept whole N), search needs))
+put-map-requires c κs =
+    let c9 = c .before .before .before .before .before .before .before .before .before in
+    let c15 = c9 .before .before .before .before .before .before in
+    let whole = steps-complete (sound-steps (c15 .pre .0)) in
+    let N = c9 .number .ensures in
+    (c15 .pre .1 .0, ((omega (arith, numbered-few whole N, c15 .pre .0 .n-high), N .size, numbered-kept whole N), search needs))
 
 add-result : tie.Need-add-result
 add-result c = search needs
@@ -45,12 +49,17 @@ same-length c = search needs
 
 returns : tie.Need-returns
 unfolding lent
-returns c = let a = c .before .before .before .before .before .before .before .before .before .before .before .before .before .before .before .before .before .before .args in let N = c .before .before .before .before .before .before .before .before .before .before .before .before .number .ensures in
+returns c =
+    let c8 = c .before .before .before .before .before .before .before .before in
+    let c12 = c8 .before .before .before .before in
+    let c18 = c12 .before .before .before .before .before .before in
+    let a = c18 .args in
+    let N = c12 .number .ensures in
     let C = link (a .m) (a .k) (a .model .now) in (
       omega arith,
-      c .before .before .put-map .ensures
-          ∙ ap (put (a .at + 2) (map (mapped (a .k) C (take (c .before .before .before .before .before .before .before .before .before .before .before .before .number .result) (c .before .before .before .before .before .before .before .before .before .before .before .before .number .last .1 .1 .1 .0)) (stored 48 (c .before .before .before .before .before .before .before .before .before .before .before .before .number .last .1 .1 .1 .1 .0) (c .before .before .before .before .before .before .before .before .before .before .before .before .number .result))) (from 0 (a .n)))) (c .before .before .before .before .before .before .before .before .put-mark .ensures)
-          ∙ map-put (a .k) (link (a .n) (a .k) (a .words .now)) C (a .at) (a .sheet .now) N (search needs),
+      c .before .before .put-map .ensures ∙ ap (put (a .at + 2) (map (mapped (a .k) C
+          (take (c12 .number .result) (c12 .number .last .1 .1 .1 .0)) (stored 48 (c12 .number .last .1 .1 .1 .1 .0) (c12 .number .result)))
+          (from 0 (a .n)))) (c8 .put-mark .ensures) ∙ map-put (a .k) (link (a .n) (a .k) (a .words .now)) C (a .at) (a .sheet .now) N (search needs),
     )
 
 pub put-state-map-spec : {M : Type 1} → statement M

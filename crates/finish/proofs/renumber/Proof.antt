@@ -25,7 +25,9 @@ mul-size : tie.Need-mul-size Inv-loop μ-loop
 mul-size c = search needs
 
 loop-holds : tie.Need-loop-holds Inv-loop μ-loop
-loop-holds c = let a = c .before .before .args in (search needs, refl, put-from-none (wordOf (a .k) (renumbered (a .k) (link (a .m) (a .k) (a .model .now)))) (a .numbered .now))
+loop-holds c =
+    let a = c .before .before .args in
+    (search needs, refl, put-from-none (wordOf (a .k) (renumbered (a .k) (link (a .m) (a .k) (a .model .now)))) (a .numbered .now))
 
 numbered-word-requires : tie.Need-numbered-word-requires Inv-loop μ-loop
 numbered-word-requires c κs = (c .before .before .before .before .pre .0, c .loop-test .taken)
@@ -43,13 +45,26 @@ loop-less : tie.Need-loop-less Inv-loop μ-loop
 loop-less c = search needs
 
 loop-again : tie.Need-loop-again Inv-loop μ-loop
-loop-again c = let a = c .before .before .before .before .before .args in let l = c .before .before .loop in (search needs, simp length-set (l .inv .1), put-from-more (wordOf (a .k) (renumbered (a .k) (link (a .m) (a .k) (a .model .now)))) (l .i) (c .numbered-word .result) (l .numbered) (a .numbered .now) (omega arith) (l .inv .2) (c .numbered-word .ensures))
+loop-again c =
+    let c5 = c .before .before .before .before .before in
+    let a = c5 .args in
+    let l = c .before .before .loop in (
+      search needs,
+      simp length-set (l .inv .1),
+      put-from-more (wordOf (a .k) (renumbered (a .k) (link (a .m) (a .k) (a .model .now)))) (l .i)
+          (c .numbered-word .result) (l .numbered) (a .numbered .now) (omega arith) (l .inv .2) (c .numbered-word .ensures),
+    )
 
 same-length : tie.Need-same-length Inv-loop μ-loop
 same-length c = search needs
 
 returns : tie.Need-returns Inv-loop μ-loop
-returns c = let a = c .before .before .before .before .args in let l = c .before .loop in let e : l .i ≡ a .count * a .k = omega arith in l .inv .2 ∙ ap (λ (i : ℕ). put 0 (map (wordOf (a .k) (renumbered (a .k) (link (a .m) (a .k) (a .model .now)))) (from 0 i)) (a .numbered .now)) e ∙ ap (λ (l : List ℕ). put 0 l (a .numbered .now)) (numbers-words (c .before .before .before .before .pre .0))
+returns c =
+    let a = c .before .before .before .before .args in
+    let l = c .before .loop in
+    let e : l .i ≡ a .count * a .k = omega arith in
+    l .inv .2 ∙ ap (λ (i : ℕ). put 0 (map (wordOf (a .k) (renumbered (a .k) (link (a .m) (a .k) (a .model .now)))) (from 0 i)) (a .numbered .now)) e ∙
+    ap (λ (l : List ℕ). put 0 l (a .numbered .now)) (numbers-words (c .before .before .before .before .pre .0))
 
 pub renumber-spec : {M : Type 1} → statement M
 renumber-spec =

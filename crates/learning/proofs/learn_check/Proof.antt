@@ -25,24 +25,64 @@ enum-known-c c = search needs
 
 returns-3 : tie.Need-returns-3
 unfolding spec.learnCheck
-returns-3 c = simp (sym (c .before .before .before .check .ensures), c .before .c .given .1, sym (c .before .before .before .before .before .before .within .ensures) ∙ not-false _ (c .before .before .before .before .before .if1 .left), le-leb _ _ (c .before .before .before .before .if2 .left))
+returns-3 c =
+    let c5 = c .before .before .before .before .before in
+    let c6 = c5 .before in
+    simp (
+      sym (c .before .before .before .check .ensures),
+      c .before .c .given .1,
+      sym (c6 .within .ensures) ∙ not-false _ (c5 .if1 .left),
+      le-leb _ _
+          (c .before .before .before .before .if2 .left),
+    )
 
 enum-told : tie.Need-enum-told
 enum-told c = search needs
 
 returns-4 : tie.Need-returns-4
 unfolding spec.learnCheck
-returns-4 c = simp (sym (c .before .before .before .check .ensures), c .before .enum-told .given .1, sym (c .before .before .before .before .before .before .within .ensures) ∙ not-false _ (c .before .before .before .before .before .if1 .left), le-leb _ _ (c .before .before .before .before .if2 .left), lt-leb _ _ (c .if3 .taken))
+returns-4 c =
+    let c5 = c .before .before .before .before .before in
+    let c6 = c5 .before in
+    simp (
+      sym (c .before .before .before .check .ensures),
+      c .before .enum-told .given .1,
+      sym (c6 .within .ensures) ∙ not-false _ (c5 .if1 .left),
+      le-leb _ _ (c .before .before .before .before .if2 .left),
+      lt-leb _ _ (c .if3 .taken),
+    )
 
 returns-5 : tie.Need-returns-5
 unfolding spec.learnCheck
 returns-5 c =
-    simp (sym (c .before .before .before .before .check .ensures), c .before .before .enum-told .given .1, sym (c .before .before .before .before .before .before .before .within .ensures) ∙ not-false _ (c .before .before .before .before .before .before .if1 .left), le-leb _ _ (c .before .before .before .before .before .if2 .left), le-leb _ _ (c .before .if3 .left), lt-leb _ _ (c .if4 .taken))
+    let c5 = c .before .before .before .before .before in
+    let c6 = c5 .before in
+    let c7 = c6 .before in
+    simp (
+      sym (c .before .before .before .before .check .ensures),
+      c .before .before .enum-told .given .1,
+      sym (c7 .within .ensures) ∙ not-false _
+          (c6 .if1 .left),
+      le-leb _ _ (c5 .if2 .left),
+      le-leb _ _ (c .before .if3 .left),
+      lt-leb _ _ (c .if4 .taken),
+    )
 
 returns-6 : tie.Need-returns-6
 unfolding spec.learnCheck
 returns-6 c =
-    simp (sym (c .before .before .before .before .check .ensures), c .before .before .enum-told .given .1, sym (c .before .before .before .before .before .before .before .within .ensures) ∙ not-false _ (c .before .before .before .before .before .before .if1 .left), le-leb _ _ (c .before .before .before .before .before .if2 .left), le-leb _ _ (c .before .if3 .left), le-leb _ _ (c .if4 .left))
+    let c5 = c .before .before .before .before .before in
+    let c6 = c5 .before in
+    let c7 = c6 .before in
+    simp (
+      sym (c .before .before .before .before .check .ensures),
+      c .before .before .enum-told .given .1,
+      sym (c7 .within .ensures) ∙ not-false _
+          (c6 .if1 .left),
+      le-leb _ _ (c5 .if2 .left),
+      le-leb _ _ (c .before .if3 .left),
+      le-leb _ _ (c .if4 .left),
+    )
 
 pub learn-check-spec : {M : Type 1} → statement M
 learn-check-spec =

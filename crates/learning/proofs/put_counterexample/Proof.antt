@@ -36,13 +36,25 @@ slice-aggregate-put-letters : tie.Need-slice-aggregate-put-letters
 slice-aggregate-put-letters c = sym (length-take-le _ _ (c .before .before .before .before .before .before .before .before .before .pre .0))
 
 put-letters-requires : tie.Need-put-letters-requires
-put-letters-requires c κs = let a = c .before .before .before .before .before .before .before .before .before .args in let e = ap length (c .before .before .before .before .put-mark .ensures) ∙ put-length 0 CX (a .sheet .now) (omega arith) in simp length-set (omega (arith, e, length-take-le (a .left) (a .found .now) (c .before .before .before .before .before .before .before .before .before .pre .0)))
+put-letters-requires c κs =
+    let c9 = c .before .before .before .before .before .before .before .before .before in
+    let a = c9 .args in
+    let e = ap length (c .before .before .before .before .put-mark .ensures) ∙ put-length 0 CX (a .sheet .now) (omega arith) in
+    simp length-set (omega (arith, e, length-take-le (a .left) (a .found .now) (c9 .pre .0)))
 
 same-length : tie.Need-same-length
-same-length c = let a = c .before .before .before .before .before .before .before .before .before .before .before .before .args in let w = take (a .left) (a .found .now) in ap length (wrote (c .before .before)) ∙ put-length 0 (wordBytes CX w) (a .sheet .now) (omega (arith, word-length CX refl w, length-take-le (a .left) (a .found .now) (c .before .before .before .before .before .before .before .before .before .before .before .before .pre .0)))
+same-length c =
+    let c12 = c .before .before .before .before .before .before .before .before .before .before .before .before in
+    let a = c12 .args in
+    let w = take (a .left) (a .found .now) in
+    ap length (wrote (c .before .before)) ∙ put-length 0 (wordBytes CX w) (a .sheet .now)
+    (omega (arith, word-length CX refl w, length-take-le (a .left) (a .found .now) (c12 .pre .0)))
 
 returns : tie.Need-returns
-returns c = let a = c .before .before .before .before .before .before .before .before .before .before .before .before .args in wrote (c .before .before) ∙ put-start (wordBytes CX (take (a .left) (a .found .now))) (a .sheet .now)
+returns c =
+    let c12 = c .before .before .before .before .before .before .before .before .before .before .before .before in
+    let a = c12 .args in
+    wrote (c .before .before) ∙ put-start (wordBytes CX (take (a .left) (a .found .now))) (a .sheet .now)
 
 pub put-counterexample-spec : {M : Type 1} → statement M
 put-counterexample-spec =

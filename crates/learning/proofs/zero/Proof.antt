@@ -31,13 +31,22 @@ loop-less : tie.Need-loop-less Inv-loop μ-loop
 loop-less c = search needs
 
 loop-again : tie.Need-loop-again Inv-loop μ-loop
-loop-again c = let a = c .before .before .args in (search needs, simp length-set (search needs), put-from-more (λ (j : ℕ). 0) (c .before .loop .i) 0 (c .before .loop .area) (a .area .now) (search needs) (c .before .loop .inv .2) refl)
+loop-again c =
+    let a = c .before .before .args in (
+      search needs,
+      simp length-set (search needs),
+      put-from-more (λ (j : ℕ). 0) (c .before .loop .i) 0 (c .before .loop .area) (a .area .now)
+          (search needs) (c .before .loop .inv .2) refl,
+    )
 
 same-length : tie.Need-same-length Inv-loop μ-loop
 same-length c = search needs
 
 returns : tie.Need-returns Inv-loop μ-loop
-returns c = let a = c .before .before .args in c .before .loop .inv .2 ∙ ap (λ (j : ℕ). put 0 (map (λ (j : ℕ). 0) (from 0 j)) (a .area .now)) (omega arith) ∙ ap (λ (l : List ℕ). put 0 l (a .area .now)) (zeros-from 0 (a .count)) ∙ put-start (zeros (a .count)) (a .area .now)
+returns c =
+    let a = c .before .before .args in
+    c .before .loop .inv .2 ∙ ap (λ (j : ℕ). put 0 (map (λ (j : ℕ). 0) (from 0 j)) (a .area .now)) (omega arith) ∙ ap
+    (λ (l : List ℕ). put 0 l (a .area .now)) (zeros-from 0 (a .count)) ∙ put-start (zeros (a .count)) (a .area .now)
 
 pub zero-spec : {M : Type 1} → statement M
 zero-spec =

@@ -21,17 +21,24 @@ abbrev μ-loop : tie.MeasureT-loop
 -- once a turn's letter is read: the word's place is in range, and its next state is a state
 known : (c : tie.After-wide Inv-loop μ-loop) → let a = c .before .before .before .before .before .before .args in let l = c .before .before .before .loop in (l .state * a .k + c .wide .result < length (a .words .now)) × (getD (a .words .now) (l .state * a .k + c .wide .result) 0 / 256 < a .n)
 known c =
-    let a = c .before .before .before .before .before .before .args in
+    let c6 = c .before .before .before .before .before .before in
+    let a = c6 .args in
     let l = c .before .before .before .loop in
-    let o : Sound (a .n) (a .k) (a .words .now) = c .before .before .before .before .before .before .pre .0 in
-    let h : c .wide .result < a .k = rw (c .wide .ensures) (below-at (a .k) (a .w .now) (l .at) (letters-below (a .k) (a .w .now) (c .before .before .before .before .before .before .pre .1 .1)) (search needs)) in
+    let o : Sound (a .n) (a .k) (a .words .now) = c6 .pre .0 in
+    let h : c .wide .result < a .k = rw (c .wide .ensures)
+    (below-at (a .k) (a .w .now) (l .at) (letters-below (a .k) (a .w .now) (c6 .pre .1 .1)) (search needs)) in
     (rw (o .long) (digits-lt (l .inv .1) h), o .next (l .state) (c .wide .result) (l .inv .1) h)
 
 loop-holds : tie.Need-loop-holds Inv-loop μ-loop
 loop-holds c = (search needs, c .before .before .pre .1 .0, refl)
 
 mul-place : tie.Need-mul-place Inv-loop μ-loop
-mul-place c = omega (arith, mul-le-mul {n₁ = c .before .loop .state} {m₁ = c .before .before .before .before .args .k} {n₂ = 48} {m₂ = 12} (omega (arith, c .before .before .before .before .pre .0 .n-high)) (c .before .before .before .before .pre .0 .k-high))
+mul-place c =
+    omega (
+      arith,
+      mul-le-mul {n₁ = c .before .loop .state} {m₁ = c .before .before .before .before .args .k} {n₂ = 48} {m₂ = 12}
+          (omega (arith, c .before .before .before .before .pre .0 .n-high)) (c .before .before .before .before .pre .0 .k-high),
+    )
 
 shared-slice-read-wide : tie.Need-shared-slice-read-wide Inv-loop μ-loop
 shared-slice-read-wide c = search needs
@@ -62,10 +69,24 @@ loop-less c = search needs
 
 loop-again : tie.Need-loop-again Inv-loop μ-loop
 unfolding lent
-loop-again c = let a = c .before .before .before .before .before .before .before .before .before .args in let l = c .before .before .before .before .before .before .loop in let M = link (a .n) (a .k) (a .words .now) in (search needs, rw (c .next-of .ensures) (known (c .before .before .before) .1), rw (c .next-of .ensures, c .before .output-of .ensures, c .before .before .before .wide .ensures) (l .inv .2 ∙ last-step M (l .output) (l .state) (a .w .now) (l .at) (search needs)))
+loop-again c =
+    let c6 = c .before .before .before .before .before .before in
+    let c9 = c6 .before .before .before in
+    let a = c9 .args in
+    let l = c6 .loop in
+    let M = link (a .n) (a .k) (a .words .now) in (
+      search needs,
+      rw (c .next-of .ensures) (known (c .before .before .before) .1),
+      rw
+          (c .next-of .ensures, c .before .output-of .ensures, c .before .before .before .wide .ensures)
+          (l .inv .2 ∙ last-step M (l .output) (l .state) (a .w .now) (l .at) (search needs)),
+    )
 
 returns : tie.Need-returns Inv-loop μ-loop
-returns c = let a = c .before .before .before .before .args in let l = c .before .loop in sym (l .inv .2 ∙ last-ends (link (a .n) (a .k) (a .words .now)) (l .output) (l .state) (a .w .now) (l .at) (search needs))
+returns c =
+    let a = c .before .before .before .before .args in
+    let l = c .before .loop in
+    sym (l .inv .2 ∙ last-ends (link (a .n) (a .k) (a .words .now)) (l .output) (l .state) (a .w .now) (l .at) (search needs))
 
 pub last-from-spec : {M : Type 1} → statement M
 last-from-spec =

@@ -30,7 +30,11 @@ wide-requires c κs = search needs
 
 returns : tie.Need-returns Inv-loop μ-loop
 unfolding lettersBelow
-returns c = let a = c .before .before .before .before .before .before .args in let l = c .before .before .before .before .loop in sym (l .inv .1 ∙ all-fails (test (a .k)) (a .w .now) (l .i) (search needs) (le-ltb _ _ (rw (c .before .wide .ensures) at (c .if1 .taken))))
+returns c =
+    let c6 = c .before .before .before .before .before .before in
+    let a = c6 .args in
+    let l = c .before .before .before .before .loop in
+    sym (l .inv .1 ∙ all-fails (test (a .k)) (a .w .now) (l .i) (search needs) (le-ltb _ _ (rw (c .before .wide .ensures) at (c .if1 .taken))))
 
 add-i : tie.Need-add-i Inv-loop μ-loop
 add-i c = search needs
@@ -40,11 +44,21 @@ loop-less c = search needs
 
 loop-again : tie.Need-loop-again Inv-loop μ-loop
 unfolding lettersBelow
-loop-again c = let a = c .before .before .before .before .before .before .args in let l = c .before .before .before .before .loop in (search needs, l .inv .1 ∙ all-passes (test (a .k)) (a .w .now) (l .i) (search needs) (lt-ltb _ _ (rw (c .before .wide .ensures) at (c .if1 .left))))
+loop-again c =
+    let c6 = c .before .before .before .before .before .before in
+    let a = c6 .args in
+    let l = c .before .before .before .before .loop in (
+      search needs,
+      l .inv .1 ∙ all-passes (test (a .k)) (a .w .now) (l .i) (search needs)
+          (lt-ltb _ _ (rw (c .before .wide .ensures) at (c .if1 .left))),
+    )
 
 returns-2 : tie.Need-returns-2 Inv-loop μ-loop
 unfolding lettersBelow
-returns-2 c = let a = c .before .before .before .args in let l = c .before .loop in sym (l .inv .1 ∙ all-ends (test (a .k)) (a .w .now) (l .i) (search needs))
+returns-2 c =
+    let a = c .before .before .before .args in
+    let l = c .before .loop in
+    sym (l .inv .1 ∙ all-ends (test (a .k)) (a .w .now) (l .i) (search needs))
 
 pub letters-below-spec : {M : Type 1} → statement M
 letters-below-spec =

@@ -33,7 +33,11 @@ next-of-requires c κs = search needs
 
 returns : tie.Need-returns Inv-loop μ-loop
 unfolding nextBelow
-returns c = let a = c .before .before .before .before .before .before .args in let l = c .before .before .before .before .loop in sym (l .inv .1 ∙ all-fails (test (a .n)) (a .words .now) (l .i) (search needs) (le-ltb _ _ (rw (c .before .next-of .ensures) at (c .if1 .taken))))
+returns c =
+    let c6 = c .before .before .before .before .before .before in
+    let a = c6 .args in
+    let l = c .before .before .before .before .loop in
+    sym (l .inv .1 ∙ all-fails (test (a .n)) (a .words .now) (l .i) (search needs) (le-ltb _ _ (rw (c .before .next-of .ensures) at (c .if1 .taken))))
 
 add-i : tie.Need-add-i Inv-loop μ-loop
 add-i c = search needs
@@ -43,11 +47,21 @@ loop-less c = search needs
 
 loop-again : tie.Need-loop-again Inv-loop μ-loop
 unfolding nextBelow
-loop-again c = let a = c .before .before .before .before .before .before .args in let l = c .before .before .before .before .loop in (search needs, l .inv .1 ∙ all-passes (test (a .n)) (a .words .now) (l .i) (search needs) (lt-ltb _ _ (rw (c .before .next-of .ensures) at (c .if1 .left))))
+loop-again c =
+    let c6 = c .before .before .before .before .before .before in
+    let a = c6 .args in
+    let l = c .before .before .before .before .loop in (
+      search needs,
+      l .inv .1 ∙ all-passes (test (a .n)) (a .words .now) (l .i) (search needs)
+          (lt-ltb _ _ (rw (c .before .next-of .ensures) at (c .if1 .left))),
+    )
 
 returns-2 : tie.Need-returns-2 Inv-loop μ-loop
 unfolding nextBelow
-returns-2 c = let a = c .before .before .before .args in let l = c .before .loop in sym (l .inv .1 ∙ all-ends (test (a .n)) (a .words .now) (l .i) (search needs))
+returns-2 c =
+    let a = c .before .before .before .args in
+    let l = c .before .loop in
+    sym (l .inv .1 ∙ all-ends (test (a .n)) (a .words .now) (l .i) (search needs))
 
 pub next-below-spec : {M : Type 1} → statement M
 next-below-spec =

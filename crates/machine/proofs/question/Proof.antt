@@ -28,15 +28,39 @@ letters-below-requires : tie.Need-letters-below-requires
 letters-below-requires c κs = search needs
 
 last-output-requires : tie.Need-last-output-requires
-last-output-requires c κs = let a = c .before .before .before .before .before .before .before .before .args in (lent-sound (a .n) (a .k) (a .words .now) (sym (c .before .before .before .before .before .check .ensures) ∙ ap checked (c .before .before .before .enum-told .given .1)), sym (c .before .letters-below .ensures) ∙ c .if2 .taken)
+last-output-requires c κs =
+    let c5 = c .before .before .before .before .before in
+    let c8 = c5 .before .before .before in
+    let a = c8 .args in (
+      lent-sound (a .n) (a .k) (a .words .now) (sym (c5 .check .ensures) ∙ ap checked (c .before .before .before .enum-told .given .1)),
+      sym
+          (c .before .letters-below .ensures) ∙ c .if2 .taken,
+    )
 
 returns-3 : tie.Need-returns-3
 unfolding spec.question
-returns-3 c = simp (sym (c .before .before .before .before .before .before .check .ensures), c .before .before .before .before .enum-told .given .1, le-leb _ _ (c .before .before .before .if1 .left), sym (c .before .before .letters-below .ensures) ∙ c .before .if2 .taken, c .last-output .ensures)
+returns-3 c =
+    let c6 = c .before .before .before .before .before .before in
+    simp (
+      sym (c6 .check .ensures),
+      c .before .before .before .before .enum-told .given .1,
+      le-leb _ _ (c .before .before .before .if1 .left),
+      sym
+          (c .before .before .letters-below .ensures) ∙ c .before .if2 .taken,
+      c .last-output .ensures,
+    )
 
 returns-4 : tie.Need-returns-4
 unfolding spec.question
-returns-4 c = simp (sym (c .before .before .before .before .before .check .ensures), c .before .before .before .enum-told .given .1, le-leb _ _ (c .before .before .if1 .left), sym (c .before .letters-below .ensures) ∙ c .if2 .left)
+returns-4 c =
+    let c5 = c .before .before .before .before .before in
+    simp (
+      sym (c5 .check .ensures),
+      c .before .before .before .enum-told .given .1,
+      le-leb _ _ (c .before .before .if1 .left),
+      sym
+          (c .before .letters-below .ensures) ∙ c .if2 .left,
+    )
 
 pub question-spec : {M : Type 1} → statement M
 question-spec =

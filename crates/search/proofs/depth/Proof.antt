@@ -30,13 +30,24 @@ add-d : tie.Need-add-d Inv-loop μ-loop
 add-d c = search needs
 
 loop-less : tie.Need-loop-less Inv-loop μ-loop
-loop-less c = let l = c .before .before .before .loop in omega (arith, c .index .ensures, c .before .before .before .before .pre .1 (l .at) (search needs) (search needs))
+loop-less c =
+    let l = c .before .before .before .loop in
+    omega (arith, c .index .ensures, c .before .before .before .before .pre .1 (l .at) (search needs) (search needs))
 
 loop-again : tie.Need-loop-again Inv-loop μ-loop
-loop-again c = let a = c .before .before .before .before .args in let l = c .before .before .before .loop in let E = c .before .before .before .before .pre .1 in (omega (arith, c .index .ensures, E (l .at) (search needs) (search needs)), λ letter. rw (c .index .ensures) (omega (arith, l .inv .1 letter, word-longer (a .parent .now) letter (l .at) (λ q h u. E q h (omega arith)) (search needs))))
+loop-again c =
+    let a = c .before .before .before .before .args in
+    let l = c .before .before .before .loop in
+    let E = c .before .before .before .before .pre .1 in (
+      omega (arith, c .index .ensures, E (l .at) (search needs) (search needs)),
+      λ letter. rw (c .index .ensures)
+          (omega (arith, l .inv .1 letter, word-longer (a .parent .now) letter (l .at) (λ q h u. E q h (omega arith)) (search needs))),
+    )
 
 returns : tie.Need-returns Inv-loop μ-loop
-returns c = λ letter. let a = c .before .before .args in let l = c .before .loop in let z : l .at ≡ 0 = omega arith in omega (arith, l .inv .1 letter, ap (λ (i : ℕ). length (wordAt (a .parent .now) letter i)) z, ap length (word-start (a .parent .now) letter))
+returns c =
+    λ letter. let a = c .before .before .args in let l = c .before .loop in let z : l .at ≡ 0 = omega arith in omega
+    (arith, l .inv .1 letter, ap (λ (i : ℕ). length (wordAt (a .parent .now) letter i)) z, ap length (word-start (a .parent .now) letter))
 
 pub depth-spec : {M : Type 1} → statement M
 depth-spec =

@@ -45,31 +45,43 @@ unfolding pairs lent
 all c = c .explore .ensures .1
 
 few : (c : tie.After-explore) → c .explore .result * c .before .before .before .before .before .before .before .before .args .k ≤ 27648
-few c = mul-le-mul {n₁ = c .explore .result} {m₁ = c .before .before .before .before .before .before .before .before .args .k} {n₂ = 2304} {m₂ = 12} (within (c .explore .ensures .0)) (c .before .before .before .before .before .before .before .before .pre .0 .k-high)
+few c =
+    let c8 = c .before .before .before .before .before .before .before .before in
+    mul-le-mul {n₁ = c .explore .result} {m₁ = c8 .args .k} {n₂ = 2304} {m₂ = 12} (within (c .explore .ensures .0)) (c8 .pre .0 .k-high)
 
 -- the place and the letter that were found
 place : (c : tie.Then1) → c .before .first-apart .result / c .before .before .before .before .before .before .before .before .before .before .before .args .k < c .before .before .before .explore .result
-place c = div-lt-iff-lt-mul (c .before .before .before .before .before .before .before .before .before .before .before .pre .0 .k-low) .1 (c .if1 .taken)
+place c =
+    let c11 = c .before .before .before .before .before .before .before .before .before .before .before in
+    div-lt-iff-lt-mul (c11 .pre .0 .k-low) .1 (c .if1 .taken)
 
 abbrev front : (c : tie.Then1) → Word
-front c = wordAt (parent (c .before .before .before)) (letter (c .before .before .before)) (c .before .first-apart .result / c .before .before .before .before .before .before .before .before .before .before .before .args .k)
+front c =
+    let c11 = c .before .before .before .before .before .before .before .before .before .before .before in
+    wordAt (parent (c .before .before .before)) (letter (c .before .before .before)) (c .before .first-apart .result / c11 .args .k)
 
 abbrev last : (c : tie.Then1) → ℕ
 last c = c .before .first-apart .result % c .before .before .before .before .before .before .before .before .before .before .before .args .k
 
 told : (c : tie.Then1) → let a = c .before .before .before .before .before .before .before .before .before .before .before .args in difference (M (c .before .before .before .before .before .before .before .before .before .before .before)) (N (c .before .before .before .before .before .before .before .before .before .before .before)) (a .k) (a .s) (a .t) ≡ some (front c ++ (last c ∷ []))
 told c =
-    let a = c .before .before .before .before .before .before .before .before .before .before .before .args in
-    found-some (a .k) (c .before .before .before .before .before .before .before .before .before .before .before .pre .0 .k-low) (M (c .before .before .before .before .before .before .before .before .before .before .before)) (N (c .before .before .before .before .before .before .before .before .before .before .before)) (a .s) (a .t) (nodes (c .before .before .before)) (parent (c .before .before .before)) (letter (c .before .before .before)) (c .before .before .before .explore .result) (c .before .first-apart .result) (all (c .before .before .before)) (c .before .first-apart .ensures) (c .if1 .taken)
+    let c11 = c .before .before .before .before .before .before .before .before .before .before .before in
+    let a = c11 .args in
+    found-some (a .k) (c11 .pre .0 .k-low) (M c11) (N c11) (a .s) (a .t) (nodes (c .before .before .before)) (parent (c .before .before .before))
+    (letter (c .before .before .before)) (c .before .before .before .explore .result) (c .before .first-apart .result)
+    (all (c .before .before .before)) (c .before .first-apart .ensures) (c .if1 .taken)
 
 short : (c : tie.Then1) → length (front c) + 1 < c .before .before .before .before .before .before .before .before .before .before .before .args .n + c .before .before .before .before .before .before .before .before .before .before .before .args .m
 unfolding lent
 short c =
-    let a = c .before .before .before .before .before .before .before .before .before .before .before .args in let B = c .before .before .before .before .before .before .before .before .before .before .before .pre .0 in
+    let c11 = c .before .before .before .before .before .before .before .before .before .before .before in
+    let a = c11 .args in
+    let B = c11 .pre .0 in
     omega (
       arith,
       length-append (front c) (last c ∷ []),
-      found-short (a .k) (B .k-low) (M (c .before .before .before .before .before .before .before .before .before .before .before)) (N (c .before .before .before .before .before .before .before .before .before .before .before)) (steps-complete (B .first)) (steps-complete (B .second)) (a .s) (a .t) (c .before .before .before .before .before .before .before .before .before .before .before .pre .1 .1 .0) (c .before .before .before .before .before .before .before .before .before .before .before .pre .1 .1 .1) (front c ++ (last c ∷ [])) (told c),
+      found-short (a .k) (B .k-low) (M c11) (N c11) (steps-complete (B .first))
+          (steps-complete (B .second)) (a .s) (a .t) (c11 .pre .1 .1 .0) (c11 .pre .1 .1 .1) (front c ++ (last c ∷ [])) (told c),
     )
 
 mul-explore : tie.Need-mul-explore
@@ -79,12 +91,23 @@ add-explore : tie.Need-add-explore
 add-explore c = omega (arith, start (c .before .before .before), small (c .before .before .before .pre .0))
 
 explore-requires : tie.Need-explore-requires
-explore-requires c κs = (c .before .before .before .before .before .before .before .pre .0, (c .before .before .before .before .before .before .before .pre .1 .0, start (c .before .before .before .before .before .before .before)))
+explore-requires c κs =
+    let c7 = c .before .before .before .before .before .before .before in
+    (c7 .pre .0, (c7 .pre .1 .0, start c7))
 
 first-apart-requires : tie.Need-first-apart-requires
 first-apart-requires c κs =
-    let a = c .before .before .before .before .before .before .before .before .before .args in let B = c .before .before .before .before .before .before .before .before .before .pre .0 in
-    (B, (within (c .before .explore .ensures .0), under-place _ _ (a .k) (a .n * a .m) (step-low B) (start (c .before .before .before .before .before .before .before .before .before)) (a .n * a .m) _ (under-ends _ _ (a .k) (a .n * a .m) (step-low B) (start (c .before .before .before .before .before .before .before .before .before))) (nodes (c .before)) (parent (c .before)) (letter (c .before)) (c .before .explore .result) (c .before .explore .ensures .1)))
+    let c9 = c .before .before .before .before .before .before .before .before .before in
+    let a = c9 .args in
+    let B = c9 .pre .0 in (
+      B,
+      (
+        within (c .before .explore .ensures .0),
+        under-place _ _ (a .k) (a .n * a .m) (step-low B) (start c9) (a .n * a .m) _
+            (under-ends _ _ (a .k) (a .n * a .m) (step-low B) (start c9)) (nodes (c .before)) (parent (c .before)) (letter (c .before))
+            (c .before .explore .result) (c .before .explore .ensures .1),
+      ),
+    )
 
 mul-if1 : tie.Need-mul-if1
 mul-if1 c = omega (arith, few (c .before .before))
@@ -93,7 +116,16 @@ div-spell : tie.Need-div-spell
 div-spell c = search needs
 
 spell-requires : tie.Need-spell-requires
-spell-requires c κs = ((omega (arith, place (c .before .before .before), within (c .before .before .before .before .before .before .explore .ensures .0)), λ p h u. c .before .before .before .before .before .before .explore .ensures .0 .earlier p h (omega (arith, place (c .before .before .before)))), omega (arith, short (c .before .before .before), c .before .before .before .before .before .before .before .before .before .before .before .before .before .before .pre .1 .1 .2))
+spell-requires c κs =
+    let c6 = c .before .before .before .before .before .before in
+    let c14 = c6 .before .before .before .before .before .before .before .before in (
+      (
+        omega (arith, place (c .before .before .before), within (c6 .explore .ensures .0)),
+        λ p h u. c6 .explore .ensures .0 .earlier p h
+            (omega (arith, place (c .before .before .before))),
+      ),
+      omega (arith, short (c .before .before .before), c14 .pre .1 .1 .2),
+    )
 
 rem-into : tie.Need-rem-into
 rem-into c = search needs
@@ -102,27 +134,53 @@ cast-into : tie.Need-cast-into
 cast-into c = search needs
 
 slice-write-into : tie.Need-slice-write-into
-slice-write-into c = let a = c .before .before .before .before .before .before .before .before .before .before .before .before .before .before .before .before .before .args in omega (arith, c .before .before .spell .ensures .0, short (c .before .before .before .before .before .before), c .before .before .before .before .before .before .before .before .before .before .before .before .before .before .before .before .before .pre .1 .1 .2, ap length (c .before .before .spell .ensures .1), put-length 0 (front (c .before .before .before .before .before .before)) (a .into .now) (omega (arith, short (c .before .before .before .before .before .before), c .before .before .before .before .before .before .before .before .before .before .before .before .before .before .before .before .before .pre .1 .1 .2)))
+slice-write-into c =
+    let c6 = c .before .before .before .before .before .before in
+    let c17 = c6 .before .before .before .before .before .before .before .before .before .before .before in
+    let a = c17 .args in
+    omega (
+      arith,
+      c .before .before .spell .ensures .0,
+      short c6,
+      c17 .pre .1 .1 .2,
+      ap length (c .before .before .spell .ensures .1),
+      put-length 0
+          (front c6) (a .into .now) (omega (arith, short c6, c17 .pre .1 .1 .2)),
+    )
 
 add-result : tie.Need-add-result
-add-result c = omega (arith, c .before .before .spell .ensures .0, short (c .before .before .before .before .before .before), c .before .before .before .before .before .before .before .before .before .before .before .before .before .before .before .before .before .pre .0 .n-high, c .before .before .before .before .before .before .before .before .before .before .before .before .before .before .before .before .before .pre .0 .m-high)
+add-result c =
+    let c6 = c .before .before .before .before .before .before in
+    let c17 = c6 .before .before .before .before .before .before .before .before .before .before .before in
+    omega (arith, c .before .before .spell .ensures .0, short c6, c17 .pre .0 .n-high, c17 .pre .0 .m-high)
 
 same-length : tie.Need-same-length
 same-length c = search needs
 
 returns : tie.Need-returns
 returns c =
-    let a = c .before .before .before .before .before .before .before .before .before .before .before .before .before .before .before .before .before .args in let f = front (c .before .before .before .before .before .before) in let v = last (c .before .before .before .before .before .before) in
-    let small : v % 256 ≡ v = omega (arith, mod-lt (c .before .before .before .before .before .before .before .first-apart .result) (c .before .before .before .before .before .before .before .before .before .before .before .before .before .before .before .before .before .pre .0 .k-low), c .before .before .before .before .before .before .before .before .before .before .before .before .before .before .before .before .before .pre .0 .k-high) in
-    rw (told (c .before .before .before .before .before .before)) (
+    let c6 = c .before .before .before .before .before .before in
+    let c7 = c6 .before in
+    let c17 = c7 .before .before .before .before .before .before .before .before .before .before in
+    let a = c17 .args in
+    let f = front c6 in
+    let v = last c6 in
+    let small : v % 256 ≡ v = omega (arith, mod-lt (c7 .first-apart .result) (c17 .pre .0 .k-low), c17 .pre .0 .k-high) in
+    rw (told c6) (
       omega (arith, c .before .before .spell .ensures .0, length-append f (v ∷ [])),
-      ap (set (c .before .before .spell .last .1 .1 .1 .0) (c .before .before .spell .result)) small ∙ ap₂ (λ (x : List ℕ) (j : ℕ). set x j v) (c .before .before .spell .ensures .1) (c .before .before .spell .ensures .0) ∙ put-store 0 f v (a .into .now) (omega (arith, short (c .before .before .before .before .before .before), c .before .before .before .before .before .before .before .before .before .before .before .before .before .before .before .before .before .pre .1 .1 .2)),
+      ap
+          (set (c .before .before .spell .last .1 .1 .1 .0) (c .before .before .spell .result)) small ∙ ap₂ (λ (x : List ℕ) (j : ℕ). set x j v)
+          (c .before .before .spell .ensures .1) (c .before .before .spell .ensures .0) ∙ put-store 0 f v (a .into .now)
+          (omega (arith, short c6, c17 .pre .1 .1 .2)),
     )
 
 returns-2 : tie.Need-returns-2
 returns-2 c =
-    let a = c .before .before .before .before .before .before .before .before .before .before .before .args in
-    rw (found-none (a .k) (c .before .before .before .before .before .before .before .before .before .before .before .pre .0 .k-low) (M (c .before .before .before .before .before .before .before .before .before .before .before)) (N (c .before .before .before .before .before .before .before .before .before .before .before)) (a .s) (a .t) (nodes (c .before .before .before)) (parent (c .before .before .before)) (letter (c .before .before .before)) (c .before .before .before .explore .result) (c .before .first-apart .result) (all (c .before .before .before)) (c .before .first-apart .ensures) (c .if1 .left)) (refl, refl)
+    let c11 = c .before .before .before .before .before .before .before .before .before .before .before in
+    let a = c11 .args in
+    rw (found-none (a .k) (c11 .pre .0 .k-low) (M c11) (N c11) (a .s) (a .t) (nodes (c .before .before .before))
+    (parent (c .before .before .before)) (letter (c .before .before .before)) (c .before .before .before .explore .result)
+    (c .before .first-apart .result) (all (c .before .before .before)) (c .before .first-apart .ensures) (c .if1 .left)) (refl, refl)
 
 pub differ-spec : {M : Type 1} → statement M
 differ-spec =

@@ -5,7 +5,10 @@ use Rattle.search.proofs.difference.Statement.{statement}
 use Rattle.search.proofs.difference.Tie as tie
 
 differ-requires : tie.Need-differ-requires
-differ-requires c κs = let B = c .before .before .before .before .before .before .before .before .pre .0 in (B, (fresh 2304 refl, (B .first .some, B .second .some, c .before .before .before .before .before .before .before .before .pre .1)))
+differ-requires c κs =
+    let c8 = c .before .before .before .before .before .before .before .before in
+    let B = c8 .pre .0 in
+    (B, (fresh 2304 refl, (B .first .some, B .second .some, c8 .pre .1)))
 
 same-length : tie.Need-same-length
 same-length c = search needs

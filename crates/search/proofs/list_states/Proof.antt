@@ -15,7 +15,9 @@ abbrev μ-loop : tie.MeasureT-loop
 μ-loop queue parent letter count order₀ reach₀ p₀ order reach p = count - p
 
 loop-holds : tie.Need-loop-holds Inv-loop μ-loop
-loop-holds c = let a = c .before .args in (search needs, refl, listed-none (a .queue .now) (a .parent .now) (a .letter .now) (a .order .now) (a .reach .now) (c .before .pre .1 .0))
+loop-holds c =
+    let a = c .before .args in
+    (search needs, refl, listed-none (a .queue .now) (a .parent .now) (a .letter .now) (a .order .now) (a .reach .now) (c .before .pre .1 .0))
 
 mul-index : tie.Need-mul-index Inv-loop μ-loop
 mul-index c = search needs
@@ -43,8 +45,14 @@ loop-less c = search needs
 
 loop-again : tie.Need-loop-again Inv-loop μ-loop
 loop-again c =
-    let l = c .before .before .before .before .before .before .before .loop in
-    (search needs, search needs, rw (c .before .before .before .before .index .ensures, c .before .before .spell-slot .ensures, add-one) (listed-more (l .inv .2) (omega (arith, c .before .before .before .before .before .before .before .before .before .pre .0 .0)) (omega (arith, c .before .before .before .before .before .before .before .before .before .pre .1 .1, l .inv .1))))
+    let c7 = c .before .before .before .before .before .before .before in
+    let c9 = c7 .before .before in
+    let l = c7 .loop in (
+      search needs,
+      search needs,
+      rw (c .before .before .before .before .index .ensures, c .before .before .spell-slot .ensures, add-one)
+          (listed-more (l .inv .2) (omega (arith, c9 .pre .0 .0)) (omega (arith, c9 .pre .1 .1, l .inv .1))),
+    )
 
 same-length : tie.Need-same-length Inv-loop μ-loop
 same-length c = search needs

@@ -8,13 +8,18 @@ use Rattle.search.proofs.meet.Statement.{statement}
 use Rattle.search.proofs.meet.Tie as tie
 
 free : (c : tie.Else1) → c .before .before .args .count < 2304
-free c = let a = c .before .before .args in room (c .before .before .pre .0) (a .x) (a .from) (a .a) (c .before .before .pre .1 .0) (c .if1 .left) (c .before .before .pre .1 .2)
+free c =
+    let a = c .before .before .args in
+    room (c .before .before .pre .0) (a .x) (a .from) (a .a) (c .before .before .pre .1 .0) (c .if1 .left) (c .before .before .pre .1 .2)
 
 element-copy-out-if1 : tie.Need-element-copy-out-if1
 element-copy-out-if1 c = search needs
 
 returns : tie.Need-returns
-returns c = let a = c .before .before .args in let H = c .before .before .pre .0 in (H, sym (joined-old _ (a .x) _ (sym (H .marks (a .x) (search needs)) ∙ c .if1 .taken)))
+returns c =
+    let a = c .before .before .args in
+    let H = c .before .before .pre .0 in
+    (H, sym (joined-old _ (a .x) _ (sym (H .marks (a .x) (search needs)) ∙ c .if1 .taken)))
 
 element-write-seen : tie.Need-element-write-seen
 element-write-seen c = search needs
@@ -48,13 +53,16 @@ add-result c = omega (arith, free c)
 
 returns-2 : tie.Need-returns-2
 returns-2 c =
-    let a = c .before .before .args in let H = c .before .before .pre .0 in let p = c .before .before .pre .1 in
+    let a = c .before .before .args in
+    let H = c .before .before .pre .0 in
+    let p = c .before .before .pre .1 in
     let e : a .x % 65536 ≡ a .x = omega (arith, p .0) in
     let f : a .from % 65536 ≡ a .from = omega (arith, free c, p .2) in
     let g : a .a % 256 ≡ a .a = omega (arith, p .1) in
     rw (e, f, g, add-one) (
       holds-new H (a .x) (a .from) (a .a) (p .0) (c .if1 .left) (p .2),
-      entries-new H (a .x) (a .from) (a .a) (p .0) (c .if1 .left) (p .2) ∙ sym (joined-new _ (a .x) _ (sym (H .marks (a .x) (search needs)) ∙ c .if1 .left)),
+      entries-new H (a .x) (a .from) (a .a) (p .0)
+          (c .if1 .left) (p .2) ∙ sym (joined-new _ (a .x) _ (sym (H .marks (a .x) (search needs)) ∙ c .if1 .left)),
     )
 
 pub meet-spec : {M : Type 1} → statement M

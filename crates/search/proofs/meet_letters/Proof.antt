@@ -32,15 +32,31 @@ index-requires : tie.Need-index-requires Inv-loop μ-loop
 index-requires c κs = search needs
 
 loop-holds : tie.Need-loop-holds Inv-loop μ-loop
-loop-holds c = let z : c .before .before .before .before .args .k - 0 ≡ c .before .before .before .before .args .k = omega arith in (search needs, c .before .before .before .before .pre .1 .1 .0, c .before .before .before .before .pre .1 .0, refl, λ start. rw z)
+loop-holds c =
+    let z : c .before .before .before .before .args .k - 0 ≡ c .before .before .before .before .args .k = omega arith in
+    (search needs, c .before .before .before .before .pre .1 .1 .0, c .before .before .before .before .pre .1 .0, refl, λ start. rw z)
 
 pair-next-requires : tie.Need-pair-next-requires Inv-loop μ-loop
 pair-next-requires c κs = (c .before .before .before .before .before .before .pre .0, (low c, search needs))
 
 meet-requires : tie.Need-meet-requires Inv-loop μ-loop
 meet-requires c κs =
-    let a = c .before .before .before .before .before .before .before .before .before .before .before .args in let l = c .before .before .before .before .before .before .loop in let B = c .before .before .before .before .before .before .before .before .before .before .before .pre .0 in
-    (l .inv .2, (omega (arith, c .before .before .before .before .pair-next .ensures, step-low B (c .before .before .before .before .before .before .before .index .result) (l .a) (low (c .before .before .before .before .before)) (search needs), small B), omega (arith, B .k-high), omega (arith, l .inv .1)))
+    let c5 = c .before .before .before .before .before in
+    let c6 = c5 .before in
+    let c7 = c6 .before in
+    let c11 = c7 .before .before .before .before in
+    let a = c11 .args in
+    let l = c6 .loop in
+    let B = c11 .pre .0 in (
+      l .inv .2,
+      (
+        omega
+            (arith, c .before .before .before .before .pair-next .ensures, step-low B (c7 .index .result) (l .a) (low c5) (search needs), small B),
+        omega
+            (arith, B .k-high),
+        omega (arith, l .inv .1),
+      ),
+    )
 
 add-a : tie.Need-add-a Inv-loop μ-loop
 add-a c = search needs
@@ -50,11 +66,18 @@ loop-less c = search needs
 
 loop-again : tie.Need-loop-again Inv-loop μ-loop
 loop-again c =
-    let a = c .before .before .before .before .before .before .before .before .before .before .before .before .args in let l = c .before .before .before .before .before .before .before .loop in let e = entryAt (a .queue .now) (a .parent .now) (a .letter .now) (a .at) in
+    let c5 = c .before .before .before .before .before in
+    let c7 = c5 .before .before in
+    let c8 = c7 .before in
+    let c12 = c8 .before .before .before .before in
+    let a = c12 .args in
+    let l = c7 .loop in
+    let e = entryAt (a .queue .now) (a .parent .now) (a .letter .now) (a .at) in
     let q = entries (l .queue) (l .parent) (l .letter) (l .met) in
     let step = pairStep (link (a .n) (a .k) (a .words .now)) (link (a .m) (a .k) (a .others .now)) in
-    let w = onward-later (l .met) (wordAt (l .parent) (l .letter) (a .at)) (l .a) (omega (arith, l .inv .1)) ∙ ap (λ (e : Entry ℕ). e .word ++ (l .a ∷ [])) (l .inv .3) in
-    let x = c .before .before .before .before .before .pair-next .ensures ∙ ap (λ (y : ℕ). step y (l .a)) (c .before .before .before .before .before .before .before .before .index .ensures) in
+    let w = onward-later (l .met) (wordAt (l .parent) (l .letter) (a .at)) (l .a) (omega (arith, l .inv .1)) ∙ ap
+    (λ (e : Entry ℕ). e .word ++ (l .a ∷ [])) (l .inv .3) in
+    let x = c5 .pair-next .ensures ∙ ap (λ (y : ℕ). step y (l .a)) (c8 .index .ensures) in
     let now = c .meet .ensures .1 ∙ ap₂ (joined q) x w in
     let g = joined-grown q (step (e .node) (l .a)) (e .word ++ (l .a ∷ [])) in
     let same = kept (l .queue) (l .parent) (l .letter) _ _ _ (l .met) (c .meet .result) (g .0, now ∙ g .1) (a .at) (l .inv .1) in (
@@ -62,11 +85,16 @@ loop-again c =
       same .0,
       c .meet .ensures .0,
       same .1 ∙ l .inv .3,
-      λ start. ap (meetAll eqb step start e (l .a + 1) (a .k - (l .a + 1))) now ∙ sym (letter-tried step start e (a .k) (l .a) q (search needs)) ∙ l .inv .4 start,
+      λ start. ap (meetAll eqb step start e (l .a + 1) (a .k - (l .a + 1))) now ∙ sym
+          (letter-tried step start e (a .k) (l .a) q (search needs)) ∙ l .inv .4 start,
     )
 
 returns : tie.Need-returns Inv-loop μ-loop
-returns c = let a = c .before .before .before .before .before .before .args in let l = c .before .loop in (l .inv .2, λ start. sym (letters-over _ start _ (a .k) (l .a) _ (search needs)) ∙ l .inv .4 start)
+returns c =
+    let c6 = c .before .before .before .before .before .before in
+    let a = c6 .args in
+    let l = c .before .loop in
+    (l .inv .2, λ start. sym (letters-over _ start _ (a .k) (l .a) _ (search needs)) ∙ l .inv .4 start)
 
 pub meet-letters-spec : {M : Type 1} → statement M
 meet-letters-spec =

@@ -13,8 +13,11 @@ slice-aggregate-number-beside c = search needs
 
 number-beside-requires : tie.Need-number-beside-requires
 number-beside-requires c κs =
-    let r = c .before .before .before .before .before .before .before .before .before .pre .1 .0 in
-    ((beside-still (replicate 12 0) (c .before .before .before .before .before .before .before .before .before .pre .0) (r .0) (r .1) (r .2) (length-replicate {A = ℕ} 12 0) (zeros-still 12), zeros-still 12), (fresh 2304 refl, c .before .before .before .before .before .before .before .before .before .pre .1 .1))
+    let c9 = c .before .before .before .before .before .before .before .before .before in
+    let r = c9 .pre .1 .0 in (
+      (beside-still (replicate 12 0) (c9 .pre .0) (r .0) (r .1) (r .2) (length-replicate {A = ℕ} 12 0) (zeros-still 12), zeros-still 12),
+      (fresh 2304 refl, c9 .pre .1 .1),
+    )
 
 same-length : tie.Need-same-length
 same-length c = search needs

@@ -26,7 +26,9 @@ next-requires-2 : tie.Need-next-requires-2
 next-requires-2 c κs = at (c .before .before .before) .second
 
 add-result : tie.Need-add-result
-add-result c = rw (c .next2 .ensures, c .before .next .ensures) (omega (arith, at (c .before .before .before .before) .next, small (c .before .before .before .before .pre .0)))
+add-result c =
+    rw (c .next2 .ensures, c .before .next .ensures)
+    (omega (arith, at (c .before .before .before .before) .next, small (c .before .before .before .before .pre .0)))
 
 returns : tie.Need-returns
 unfolding pairStep lent

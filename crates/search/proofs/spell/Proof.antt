@@ -37,7 +37,10 @@ add-end : tie.Need-add-end Inv-loop μ-loop
 add-end c = omega (arith, c .depth .ensures (c .before .before .args .letter .now))
 
 loop-holds : tie.Need-loop-holds Inv-loop μ-loop
-loop-holds c = let a = c .before .before .args in let w = wordAt (a .parent .now) (a .letter .now) (a .p) in (search needs, refl, omega (arith, c .depth .ensures (a .letter .now)), [], sym (append-nil w), sym (put-none _ (a .into .now)))
+loop-holds c =
+    let a = c .before .before .args in
+    let w = wordAt (a .parent .now) (a .letter .now) (a .p) in
+    (search needs, refl, omega (arith, c .depth .ensures (a .letter .now)), [], sym (append-nil w), sym (put-none _ (a .into .now)))
 
 sub-i : tie.Need-sub-i Inv-loop μ-loop
 sub-i c = omega (arith, turn c .1)
@@ -62,14 +65,22 @@ loop-less c = omega (arith, turn (c .before .before .before) .0, c .index .ensur
 
 loop-again : tie.Need-loop-again Inv-loop μ-loop
 loop-again c =
-    let a = c .before .before .before .before .before .before .before .args in let l = c .before .before .before .before .loop in let t = turn (c .before .before .before) in let v = getD (a .letter .now) (l .q) 0 in
+    let c7 = c .before .before .before .before .before .before .before in
+    let a = c7 .args in
+    let l = c .before .before .before .before .loop in
+    let t = turn (c .before .before .before) in
+    let v = getD (a .letter .now) (l .q) 0 in
     let z : l .i ≡ suc (l .i - 1) = omega (arith, t .1) in (
       omega (arith, t .0, c .index .ensures),
       simp length-set (l .inv .1),
       rw (c .index .ensures) (omega (arith, t .1)),
       v ∷ l .inv .3,
-      rw (c .index .ensures) (l .inv .4 ∙ ap (λ (w : Word). w ++ l .inv .3) (word-step (a .parent .now) (a .letter .now) (l .q) (t .3) (search needs)) ∙ append-assoc (wordAt (a .parent .now) (a .letter .now) (getD (a .parent .now) (l .q) 0)) (v ∷ []) (l .inv .3)),
-      ap (λ (x : List ℕ). set x (l .i - 1) v) (l .inv .5 ∙ ap (λ (j : ℕ). put j (l .inv .3) (a .into .now)) z) ∙ put-before (l .i - 1) v (l .inv .3) (a .into .now) (omega (arith, t .1, t .2)),
+      rw
+          (c .index .ensures) (l .inv .4 ∙ ap (λ (w : Word). w ++ l .inv .3) (word-step (a .parent .now) (a .letter .now) (l .q) (t .3) (search needs)) ∙
+          append-assoc (wordAt (a .parent .now) (a .letter .now) (getD (a .parent .now) (l .q) 0)) (v ∷ []) (l .inv .3)),
+      ap
+          (λ (x : List ℕ). set x (l .i - 1) v) (l .inv .5 ∙ ap (λ (j : ℕ). put j (l .inv .3) (a .into .now)) z) ∙ put-before (l .i - 1) v (l .inv .3)
+          (a .into .now) (omega (arith, t .1, t .2)),
     )
 
 same-length : tie.Need-same-length Inv-loop μ-loop
@@ -77,12 +88,16 @@ same-length c = search needs
 
 returns : tie.Need-returns Inv-loop μ-loop
 returns c =
-    let a = c .before .before .before .before .args in let l = c .before .loop in
+    let a = c .before .before .before .before .args in
+    let l = c .before .loop in
     let z : l .q ≡ 0 = omega arith in
     let s = ap (wordAt (a .parent .now) (a .letter .now)) z ∙ word-start (a .parent .now) (a .letter .now) in
     let w : wordAt (a .parent .now) (a .letter .now) (a .p) ≡ l .inv .3 = l .inv .4 ∙ ap (λ (w : Word). w ++ l .inv .3) s in
-    let i : l .i ≡ a .at = omega (arith, l .inv .2, ap length s) in
-    (ap (λ (d : ℕ). a .at + d) (c .before .before .depth .ensures (a .letter .now)), l .inv .5 ∙ ap₂ (λ (j : ℕ) (x : List ℕ). put j x (a .into .now)) i (sym w))
+    let i : l .i ≡ a .at = omega (arith, l .inv .2, ap length s) in (
+      ap (λ (d : ℕ). a .at + d) (c .before .before .depth .ensures (a .letter .now)),
+      l .inv .5 ∙ ap₂ (λ (j : ℕ) (x : List ℕ). put j x (a .into .now))
+          i (sym w),
+    )
 
 pub spell-spec : {M : Type 1} → statement M
 spell-spec =

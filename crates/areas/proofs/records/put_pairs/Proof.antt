@@ -45,7 +45,17 @@ loop-less : tie.Need-loop-less Inv-loop μ-loop
 loop-less c = search needs
 
 loop-again : tie.Need-loop-again Inv-loop μ-loop
-loop-again c = let a = c .before .before .before .before .before .before .before .before .before .args in let l = c .before .before .before .before .before .before .loop in (search needs, search needs, c .before .before .put-pair .ensures ∙ ap (λ (x : List ℕ). put (a .at + 2 * l .i) (pair (getD (a .words .now) (a .from + l .i) 0)) x) (l .inv .2) ∙ put-pairs-more (a .at) (a .from) (l .i) (a .words .now) (a .area .now) (search needs) (search needs))
+loop-again c =
+    let c6 = c .before .before .before .before .before .before in
+    let c9 = c6 .before .before .before in
+    let a = c9 .args in
+    let l = c6 .loop in (
+      search needs,
+      search needs,
+      c .before .before .put-pair .ensures ∙ ap
+          (λ (x : List ℕ). put (a .at + 2 * l .i) (pair (getD (a .words .now) (a .from + l .i) 0)) x) (l .inv .2) ∙ put-pairs-more (a .at) (a .from) (l .i)
+          (a .words .now) (a .area .now) (search needs) (search needs),
+    )
 
 same-length : tie.Need-same-length Inv-loop μ-loop
 same-length c = search needs

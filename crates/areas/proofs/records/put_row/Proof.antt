@@ -24,8 +24,13 @@ same-length : tie.Need-same-length
 same-length c = search needs
 
 returns : tie.Need-returns
-returns c = let a = c .before .before .before .before .before .before .before .before .before .before .before .args in let w = drop (a .from) (a .words .now) in
-    c .before .before .put-pairs .ensures ∙ ap (λ (x : List ℕ). put (a .at + 2) (pairBytes (take (a .k) w)) x) (c .before .before .before .before .before .before .put-mark .ensures) ∙ put-row (a .at) (a .k) w (a .area .now) (simp length-drop (omega arith)) (search needs)
+returns c =
+    let c6 = c .before .before .before .before .before .before in
+    let c11 = c6 .before .before .before .before .before in
+    let a = c11 .args in
+    let w = drop (a .from) (a .words .now) in
+    c .before .before .put-pairs .ensures ∙ ap (λ (x : List ℕ). put (a .at + 2) (pairBytes (take (a .k) w)) x) (c6 .put-mark .ensures) ∙ put-row
+    (a .at) (a .k) w (a .area .now) (simp length-drop (omega arith)) (search needs)
 
 pub put-row-spec : {M : Type 1} → statement M
 put-row-spec =

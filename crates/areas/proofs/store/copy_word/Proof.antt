@@ -43,12 +43,16 @@ same-length c = search needs
 
 returns : tie.Need-returns
 unfolding slot
-returns c = let a = c .before .before .before .before .before .before .before .before .before .args in
+returns c =
+    let c5 = c .before .before .before .before .before in
+    let c9 = c5 .before .before .before .before in
+    let a = c9 .args in
     let s = a .store .now in
-    let n : c .before .before .before .before .before .wide .result ≡ getD s (a .j * a .width) 0 = c .before .before .before .before .before .wide .ensures in
-    let size : a .j * a .width + 1 + c .before .before .before .before .before .wide .result - (a .j * a .width + 1) ≡ getD s (a .j * a .width) 0 = omega arith in (
+    let n : c5 .wide .result ≡ getD s (a .j * a .width) 0 = c5 .wide .ensures in
+    let size : a .j * a .width + 1 + c5 .wide .result - (a .j * a .width + 1) ≡ getD s (a .j * a .width) 0 = omega arith in (
       ap (λ (x : ℕ). a .at + x) (n ∙ sym (slot-length (a .width) s (a .j) (search needs) (search needs))),
-      c .before .before .put-letters .ensures ∙ ap (λ (x : ℕ). put (a .at) (take x (drop (a .j * a .width + 1) s)) (a .area .now)) size,
+      c .before .before .put-letters .ensures ∙ ap
+          (λ (x : ℕ). put (a .at) (take x (drop (a .j * a .width + 1) s)) (a .area .now)) size,
     )
 
 pub copy-word-spec : {M : Type 1} → statement M

@@ -23,7 +23,12 @@ same-length : tie.Need-same-length
 same-length c = search needs
 
 returns : tie.Need-returns
-returns c = let a = c .before .before .before .before .before .before .args in let d = a .area .now in ap (λ (l : List ℕ). take (a .at) d ++ (l ++ drop (length d - a .at) (drop (a .at) d))) (c .before .before .copy .ensures .1) ∙ put-copied d (a .w .now) (a .at) (search needs)
+returns c =
+    let c6 = c .before .before .before .before .before .before in
+    let a = c6 .args in
+    let d = a .area .now in
+    ap (λ (l : List ℕ). take (a .at) d ++ (l ++ drop (length d - a .at) (drop (a .at) d))) (c .before .before .copy .ensures .1) ∙ put-copied d
+    (a .w .now) (a .at) (search needs)
 
 pub put-letters-spec : {M : Type 1} → statement M
 put-letters-spec =

@@ -25,7 +25,12 @@ put-letters-requires : tie.Need-put-letters-requires
 put-letters-requires c κs = simp length-set (search needs)
 
 same-length : tie.Need-same-length
-same-length c = let a = c .before .before .before .before .before .before .args in let e = ap length (c .before .before .put-letters .ensures) ∙ put-length (a .j * a .width + 1) (a .w .now) (set (a .store .now) (a .j * a .width) (length (a .w .now) % 256)) (simp length-set (search needs)) in e ∙ simp length-set
+same-length c =
+    let c6 = c .before .before .before .before .before .before in
+    let a = c6 .args in
+    let e = ap length (c .before .before .put-letters .ensures) ∙ put-length (a .j * a .width + 1) (a .w .now)
+    (set (a .store .now) (a .j * a .width) (length (a .w .now) % 256)) (simp length-set (search needs)) in
+    e ∙ simp length-set
 
 returns : tie.Need-returns
 returns c = let a = c .before .before .before .before .before .before .args in

@@ -35,7 +35,10 @@ stored′ c =
     c .store-word .ensures ∙ ap (λ (x : Word). put (a .m * 48) (length x ∷ x) (a .s .now)) (spelled (c .before .before .before .before .before) .0)
 
 row-word-requires : tie.Need-row-word-requires
-row-word-requires c κs = let D = c .before .before .before .before .before .before .before .pre .0 in (D .kept, (D .sound .k-low, D .sound .k-high, c .before .before .before .before .before .before .before .pre .1 .0, omega (arith, c .before .before .before .before .before .before .before .pre .1 .2)))
+row-word-requires c κs =
+    let c7 = c .before .before .before .before .before .before .before in
+    let D = c7 .pre .0 in
+    (D .kept, (D .sound .k-low, D .sound .k-high, c7 .pre .1 .0, omega (arith, c7 .pre .1 .2)))
 
 slice-reshare-prefix-store-word : tie.Need-slice-reshare-prefix-store-word
 slice-reshare-prefix-store-word c = spelled (c .before .before .before) .2
@@ -44,7 +47,21 @@ slice-aggregate-store-word : tie.Need-slice-aggregate-store-word
 slice-aggregate-store-word c = sym (length-take-le _ _ (spelled (c .before .before .before .before) .2))
 
 store-word-requires : tie.Need-store-word-requires
-store-word-requires c κs = let D = c .before .before .before .before .before .before .before .before .before .before .before .before .pre .0 in (omega (arith, D .room, D .sound .n-high, c .before .before .before .before .before .before .before .before .before .before .before .before .pre .1 .1), (omega (arith, length-take-le (c .before .before .before .before .row-word .result) (c .before .before .before .before .row-word .last .1 .1 .1 .1 .0) (spelled (c .before .before .before .before) .2), spelled (c .before .before .before .before) .1), omega arith))
+store-word-requires c κs =
+    let c12 = c .before .before .before .before .before .before .before .before .before .before .before .before in
+    let D = c12 .pre .0 in (
+      omega (arith, D .room, D .sound .n-high, c12 .pre .1 .1),
+      (
+        omega (
+          arith,
+          length-take-le (c .before .before .before .before .row-word .result)
+              (c .before .before .before .before .row-word .last .1 .1 .1 .1 .0) (spelled (c .before .before .before .before) .2),
+          spelled
+              (c .before .before .before .before) .1,
+        ),
+        omega arith,
+      ),
+    )
 
 mul-rows : tie.Need-mul-rows
 mul-rows c = search needs
@@ -53,23 +70,41 @@ element-write-rows : tie.Need-element-write-rows
 element-write-rows c = search needs
 
 mul-first : tie.Need-mul-first
-mul-first c = omega (arith, desk-size (c .before .before .before .before .before .before .before .before .before .before .before .before .before .before .before .pre .0))
+mul-first c =
+    let c12 = c .before .before .before .before .before .before .before .before .before .before .before .before in
+    let c15 = c12 .before .before .before in
+    omega (arith, desk-size (c15 .pre .0))
 
 add-first : tie.Need-add-first
-add-first c = omega (arith, desk-size (c .before .before .before .before .before .before .before .before .before .before .before .before .before .before .before .pre .0))
+add-first c =
+    let c12 = c .before .before .before .before .before .before .before .before .before .before .before .before in
+    let c15 = c12 .before .before .before in
+    omega (arith, desk-size (c15 .pre .0))
 
 add-fill-rows : tie.Need-add-fill-rows
 add-fill-rows c = search needs
 
 add-fill-rows-2 : tie.Need-add-fill-rows-2
-add-fill-rows-2 c = omega (arith, desk-next (c .before .before .before .before .before .before .before .before .before .before .before .before .before .before .before .before .before .before .pre .0) (c .before .before .before .before .before .before .before .before .before .before .before .before .before .before .before .before .before .before .pre .1 .1))
+add-fill-rows-2 c =
+    let c12 = c .before .before .before .before .before .before .before .before .before .before .before .before in
+    let c18 = c12 .before .before .before .before .before .before in
+    omega (arith, desk-next (c18 .pre .0) (c18 .pre .1 .1))
 
 fill-rows-requires : tie.Need-fill-rows-requires
-fill-rows-requires c κs = let a = c .before .before .before .before .before .before .before .before .before .before .before .before .before .before .before .before .before .before .args in
-    let D = c .before .before .before .before .before .before .before .before .before .before .before .before .before .before .before .before .before .before .pre .0 in
-    let most = desk-next D (c .before .before .before .before .before .before .before .before .before .before .before .before .before .before .before .before .before .before .pre .1 .1) in (
-      (D .sound, appended-kept D (a .r) (a .table .now) (c .before .before .before .before .before .before .before .before .before .before .before .before .before .before .before .before .before .before .pre .1 .0) (c .before .before .before .before .before .before .before .before .before .before .before .before .before .before .before .before .before .before .pre .1 .1) (c .before .before .before .before .before .store-word .last .0) (a .m + 1) (stored′ (c .before .before .before .before .before)) (omega arith), D .columns-kept),
-      (omega arith, omega arith, omega (arith, D .large), omega arith, D .narrow, spelled (c .before .before .before .before .before .before .before .before .before .before) .3),
+fill-rows-requires c κs =
+    let c5 = c .before .before .before .before .before in
+    let c10 = c5 .before .before .before .before .before in
+    let c18 = c10 .before .before .before .before .before .before .before .before in
+    let a = c18 .args in
+    let D = c18 .pre .0 in
+    let most = desk-next D (c18 .pre .1 .1) in (
+      (
+        D .sound,
+        appended-kept D (a .r) (a .table .now) (c18 .pre .1 .0) (c18 .pre .1 .1) (c5 .store-word .last .0) (a .m + 1) (stored′ c5)
+            (omega arith),
+        D .columns-kept,
+      ),
+      (omega arith, omega arith, omega (arith, D .large), omega arith, D .narrow, spelled c10 .3),
     )
 
 same-length : tie.Need-same-length
@@ -82,8 +117,13 @@ same-length-3 : tie.Need-same-length-3
 same-length-3 c = search needs
 
 returns : tie.Need-returns
-returns c = let a = c .before .before .before .before .before .before .before .before .before .before .before .before .before .before .before .before .before .before .before .before .before .before .before .args in
-    let x = appended (c .before .before .before .before .before .before .before .before .before .before .before .before .before .before .before .before .before .before .before .before .before .before .before .pre .0) (a .r) (c .before .before .before .before .fill-rows .last .0) (c .before .before .before .before .before .before .before .before .before .before .before .before .before .before .before .before .before .before .before .before .before .before .before .pre .1 .0) (c .before .before .before .before .before .before .before .before .before .before .before .before .before .before .before .before .before .before .before .before .before .before .before .pre .1 .1) (c .before .before .before .before .before .before .before .before .before .before .store-word .last .0) (a .m + 1) (stored′ (c .before .before .before .before .before .before .before .before .before .before)) (omega arith) (c .before .before .before .before .fill-rows .ensures) in
+returns c =
+    let c10 = c .before .before .before .before .before .before .before .before .before .before in
+    let c22 = c10 .before .before .before .before .before .before .before .before .before .before .before .before in
+    let c23 = c22 .before in
+    let a = c23 .args in
+    let x = appended (c23 .pre .0) (a .r) (c .before .before .before .before .fill-rows .last .0) (c23 .pre .1 .0) (c23 .pre .1 .1)
+    (c10 .store-word .last .0) (a .m + 1) (stored′ c10) (omega arith) (c .before .before .before .before .fill-rows .ensures) in
     (x .0, (x .1, x .2))
 
 pub append-row-spec : {M : Type 1} → statement M

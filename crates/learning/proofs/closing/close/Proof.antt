@@ -20,7 +20,10 @@ abbrev μ-loop : tie.MeasureT-loop
 
 -- where a row is open there is a state that S lacks
 more : (c : tie.In-loop Inv-loop μ-loop) → c .before .loop .m < c .before .before .before .before .before .before .before .before .before .before .args .n
-more c = let L = c .before .loop .inv .2 in more-states (L .desk) (L .told) (c .before .before .before .before .before .before .before .before .before .before .pre .1 .1 .0) (c .before .loop .r) (L .is) (omega (arith, L .end))
+more c =
+    let c10 = c .before .before .before .before .before .before .before .before .before .before in
+    let L = c .before .loop .inv .2 in
+    more-states (L .desk) (L .told) (c10 .pre .1 .1 .0) (c .before .loop .r) (L .is) (omega (arith, L .end))
 
 mul-last : tie.Need-mul-last Inv-loop μ-loop
 mul-last c = omega (arith, desk-size (c .before .before .before .before .before .pre .0))
@@ -29,7 +32,11 @@ add-last : tie.Need-add-last Inv-loop μ-loop
 add-last c = omega (arith, desk-size (c .before .before .before .before .before .pre .0))
 
 open-row-requires : tie.Need-open-row-requires Inv-loop μ-loop
-open-row-requires c κs = let D = c .before .before .before .before .before .before .before .pre .0 in let z = desk-size D in ((omega (arith, D .few, D .sound .n-high), omega arith, omega (arith, D .large), D .narrow), desk-rows D)
+open-row-requires c κs =
+    let c7 = c .before .before .before .before .before .before .before in
+    let D = c7 .pre .0 in
+    let z = desk-size D in
+    ((omega (arith, D .few, D .sound .n-high), omega arith, omega (arith, D .large), D .narrow), desk-rows D)
 
 loop-holds : tie.Need-loop-holds Inv-loop μ-loop
 loop-holds c = let a = c .before .before .before .before .before .before .before .before .args in
@@ -49,26 +56,49 @@ loop-holds c = let a = c .before .before .before .before .before .before .before
     )
 
 append-row-requires : tie.Need-append-row-requires Inv-loop μ-loop
-append-row-requires c κs = let L = c .before .before .before .before .before .loop .inv .2 in (L .desk, (omega (arith, L .end), more (c .before .before .before .before), omega (arith, c .before .before .before .before .before .loop .inv .1, c .before .before .before .before .before .before .before .before .before .before .before .before .before .before .pre .1 .1 .1)))
+append-row-requires c κs =
+    let c5 = c .before .before .before .before .before in
+    let c14 = c5 .before .before .before .before .before .before .before .before .before in
+    let L = c5 .loop .inv .2 in
+    (L .desk, (omega (arith, L .end), more (c .before .before .before .before), omega (arith, c5 .loop .inv .1, c14 .pre .1 .1 .1)))
 
 add-m : tie.Need-add-m Inv-loop μ-loop
-add-m c = omega (arith, more (c .before .before .before .before .before .before .before .before .before .before .before), c .before .before .before .before .before .before .before .before .before .before .before .before .loop .inv .2 .desk .sound .n-high)
+add-m c =
+    let c11 = c .before .before .before .before .before .before .before .before .before .before .before in
+    let c12 = c11 .before in
+    omega (arith, more c11, c12 .loop .inv .2 .desk .sound .n-high)
 
 add-last-2 : tie.Need-add-last-2 Inv-loop μ-loop
-add-last-2 c = omega (arith, c .before .before .before .before .before .before .before .before .before .before .before .before .loop .inv .2 .end, desk-next (c .before .before .before .before .before .before .before .before .before .before .before .before .loop .inv .2 .desk) (more (c .before .before .before .before .before .before .before .before .before .before .before)))
+add-last-2 c =
+    let c11 = c .before .before .before .before .before .before .before .before .before .before .before in
+    let c12 = c11 .before in
+    omega (arith, c12 .loop .inv .2 .end, desk-next (c12 .loop .inv .2 .desk) (more c11))
 
 open-row-requires-2 : tie.Need-open-row-requires-2 Inv-loop μ-loop
-open-row-requires-2 c κs = let L = c .before .before .before .before .before .before .before .before .before .before .before .before .before .before .loop .inv .2 in let D = c .before .before .before .before .before .before .before .before .append-row .ensures .0 in let z = desk-next (L .desk) (more (c .before .before .before .before .before .before .before .before .before .before .before .before .before)) in ((omega (arith, D .few, D .sound .n-high), omega arith, omega (arith, D .large, L .end), D .narrow), desk-rows D)
+open-row-requires-2 c κs =
+    let c8 = c .before .before .before .before .before .before .before .before in
+    let c13 = c8 .before .before .before .before .before in
+    let c14 = c13 .before in
+    let L = c14 .loop .inv .2 in
+    let D = c8 .append-row .ensures .0 in
+    let z = desk-next (L .desk) (more c13) in
+    ((omega (arith, D .few, D .sound .n-high), omega arith, omega (arith, D .large, L .end), D .narrow), desk-rows D)
 
 loop-less : tie.Need-loop-less Inv-loop μ-loop
 loop-less c = omega (arith, more (c .before .before .before .before .before .before .before .before .before .before .before .before .before .before))
 
 loop-again : tie.Need-loop-again Inv-loop μ-loop
-loop-again c = let l = c .before .before .before .before .before .before .before .before .before .before .before .before .before .before .before .loop in
-    let e = c .before .before .before .before .before .before .before .before .before .append-row .ensures in (
-      omega (arith, c .before .before .before .before .before .before .before .before .before .append-row .kept .1 .1 .1 .1 .0, l .inv .0),
-      omega (arith, c .before .before .before .before .before .before .before .before .before .append-row .kept .1 .1 .1 .1 .1 .1 .1 .1 .1 .0, l .inv .1),
-      closing-on (l .inv .2) (c .before .before .before .before .before .before .before .before .before .before .before .before .before .before .before .before .before .before .before .before .before .before .before .before .pre .1 .1 .0) (c .before .before .before .before .before .before .before .before .before .before .before .before .before .before .before .before .before .before .before .before .before .before .before .before .pre .0 .some) (c .before .before .before .before .before .before .before .before .before .before .before .before .before .before .loop-test .taken) (e .0) (e .1 .0) (e .1 .1) refl refl (c .open-row2 .ensures),
+loop-again c =
+    let c9 = c .before .before .before .before .before .before .before .before .before in
+    let c14 = c9 .before .before .before .before .before in
+    let c15 = c14 .before in
+    let c24 = c15 .before .before .before .before .before .before .before .before .before in
+    let l = c15 .loop in
+    let e = c9 .append-row .ensures in (
+      omega (arith, c9 .append-row .kept .1 .1 .1 .1 .0, l .inv .0),
+      omega (arith, c9 .append-row .kept .1 .1 .1 .1 .1 .1 .1 .1 .1 .0, l .inv .1),
+      closing-on (l .inv .2) (c24 .pre .1 .1 .0) (c24 .pre .0 .some) (c14 .loop-test .taken) (e .0) (e .1 .0) (e .1 .1) refl refl
+          (c .open-row2 .ensures),
     )
 
 same-length : tie.Need-same-length Inv-loop μ-loop
@@ -81,7 +111,10 @@ same-length-3 : tie.Need-same-length-3 Inv-loop μ-loop
 same-length-3 c = search needs
 
 returns : tie.Need-returns Inv-loop μ-loop
-returns c = let L = c .before .loop .inv .2 in (L .desk, (closing-ended L (c .before .before .before .before .before .before .before .before .before .before .pre .1 .1 .0) (c .before .before .before .before .before .before .before .before .before .before .pre .0 .some) (search needs), L .beyond))
+returns c =
+    let c10 = c .before .before .before .before .before .before .before .before .before .before in
+    let L = c .before .loop .inv .2 in
+    (L .desk, (closing-ended L (c10 .pre .1 .1 .0) (c10 .pre .0 .some) (search needs), L .beyond))
 
 pub close-spec : {M : Type 1} → statement M
 close-spec =

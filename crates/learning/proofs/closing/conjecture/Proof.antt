@@ -31,13 +31,16 @@ mul-size : tie.Need-mul-size Inv-loop μ-loop
 mul-size c = omega arith
 
 loop-holds : tie.Need-loop-holds Inv-loop μ-loop
-loop-holds c = let a = c .before .before .args in (search needs, refl, put-from-none (guessIn 59 (a .table .now) (a .rows .now) (a .m) (a .k) (a .c)) (a .model .now))
+loop-holds c =
+    let a = c .before .before .args in
+    (search needs, refl, put-from-none (guessIn 59 (a .table .now) (a .rows .now) (a .m) (a .k) (a .c)) (a .model .now))
 
 add-state-of : tie.Need-add-state-of Inv-loop μ-loop
 add-state-of c = omega arith
 
 state-of-requires : tie.Need-state-of-requires Inv-loop μ-loop
-state-of-requires c κs = ((c .before .before .before .before .pre .0 .0, omega arith), λ j h. omega (arith, c .before .before .before .before .pre .1 j h))
+state-of-requires c κs =
+    ((c .before .before .before .before .pre .0 .0, omega arith), λ j h. omega (arith, c .before .before .before .before .pre .1 j h))
 
 div-at : tie.Need-div-at Inv-loop μ-loop
 div-at c = omega arith
@@ -58,10 +61,19 @@ add-at : tie.Need-add-at Inv-loop μ-loop
 add-at c = omega (arith, here (c .before), mod-lt (c .before .before .before .loop .i) (c .before .before .before .before .before .before .pre .0 .1))
 
 shared-slice-read-word : tie.Need-shared-slice-read-word Inv-loop μ-loop
-shared-slice-read-word c = omega (arith, here (c .before .before), mod-lt (c .before .before .before .before .loop .i) (c .before .before .before .before .before .before .before .pre .0 .1))
+shared-slice-read-word c =
+    let c7 = c .before .before .before .before .before .before .before in
+    omega (arith, here (c .before .before), mod-lt (c .before .before .before .before .loop .i) (c7 .pre .0 .1))
 
 word-requires : tie.Need-word-requires Inv-loop μ-loop
-word-requires c κs = omega (arith, c .before .before .state-of .ensures, state-in-le 59 (c .before .before .before .before .before .before .before .args .table .now) (c .before .before .before .before .before .before .before .args .rows .now) (c .before .before .before .before .before .before .before .args .m) (c .before .before .before .before .before .before .before .args .c) (1 + c .before .before .before .before .loop .i))
+word-requires c κs =
+    let c7 = c .before .before .before .before .before .before .before in
+    omega (
+      arith,
+      c .before .before .state-of .ensures,
+      state-in-le 59 (c7 .args .table .now) (c7 .args .rows .now) (c7 .args .m) (c7 .args .c)
+          (1 + c .before .before .before .before .loop .i),
+    )
 
 mul-model : tie.Need-mul-model Inv-loop μ-loop
 mul-model c = search needs
@@ -77,19 +89,28 @@ loop-less c = search needs
 
 loop-again : tie.Need-loop-again Inv-loop μ-loop
 unfolding guessIn
-loop-again c = let a = c .before .before .before .before .before .before .before .before .args in
-    let l = c .before .before .before .before .before .loop in (
+loop-again c =
+    let c5 = c .before .before .before .before .before in
+    let c8 = c5 .before .before .before in
+    let a = c8 .args in
+    let l = c5 .loop in (
       search needs,
       simp length-set (l .inv .1),
-      put-from-more (guessIn 59 (a .table .now) (a .rows .now) (a .m) (a .k) (a .c)) (l .i) (c .word .result) (l .model) (a .model .now) (omega arith) (l .inv .2)
-          (c .word .ensures ∙ ap (λ (x : ℕ). 256 * x + getD (a .table .now) (getD (a .rows .now) (l .i / a .k) 0 * 59 + l .i % a .k) 0) (c .before .before .before .state-of .ensures)),
+      put-from-more (guessIn 59 (a .table .now) (a .rows .now) (a .m) (a .k) (a .c)) (l .i)
+          (c .word .result) (l .model) (a .model .now) (omega arith) (l .inv .2) (c .word .ensures ∙ ap
+          (λ (x : ℕ). 256 * x + getD (a .table .now) (getD (a .rows .now) (l .i / a .k) 0 * 59 + l .i % a .k) 0)
+          (c .before .before .before .state-of .ensures)),
     )
 
 same-length : tie.Need-same-length Inv-loop μ-loop
 same-length c = search needs
 
 returns : tie.Need-returns Inv-loop μ-loop
-returns c = let a = c .before .before .before .before .args in let l = c .before .loop in let e : l .i ≡ a .m * a .k = omega arith in l .inv .2 ∙ ap (λ (x : ℕ). put 0 (map (guessIn 59 (a .table .now) (a .rows .now) (a .m) (a .k) (a .c)) (from 0 x)) (a .model .now)) e
+returns c =
+    let a = c .before .before .before .before .args in
+    let l = c .before .loop in
+    let e : l .i ≡ a .m * a .k = omega arith in
+    l .inv .2 ∙ ap (λ (x : ℕ). put 0 (map (guessIn 59 (a .table .now) (a .rows .now) (a .m) (a .k) (a .c)) (from 0 x)) (a .model .now)) e
 
 pub conjecture-spec : {M : Type 1} → statement M
 conjecture-spec =

@@ -21,15 +21,25 @@ use Rattle.learning.proofs.rounds.begin.Tie as tie
 -- the first table is filled
 desk : (c : tie.After-fill-rows) → let a = c .before .before .before .before .before .before .before .before .before .before .before .before .before .before .before .before .before .before .before .args in Desk (a .n) (a .k) (a .words .now) (c .before .before .before .before .before .before .before .store-word .last .0) (set (a .rows .now) 0 0) 1 (c .before .before .before .before .before .before .before .before .before .before .before .before .one-letter .last .0) (a .k) (c .fill-rows .last .0)
 desk c =
-    let a = c .before .before .before .before .before .before .before .before .before .before .before .before .before .before .before .before .before .before .before .args in
-    let p = c .before .before .before .before .before .before .before .before .before .before .before .before .before .before .before .before .before .before .before .pre in
-    start-desk (a .n) (a .k) (a .words .now) (a .s .now) (a .rows .now) (c .before .before .before .before .before .before .before .before .before .before .before .before .one-letter .last .0) (a .table .now) (p .0) (c .before .before .before .before .before .before .before .before .before .before .before .before .one-letter .ensures) (p .1 .0 .0) (p .1 .0 .1) (p .1 .0 .3) (p .1 .1) (c .before .before .before .before .before .before .before .store-word .last .0) (c .before .before .before .before .before .before .before .store-word .ensures) (c .fill-rows .last .0) (c .fill-rows .ensures)
+    let c7 = c .before .before .before .before .before .before .before in
+    let c12 = c7 .before .before .before .before .before in
+    let c19 = c12 .before .before .before .before .before .before .before in
+    let a = c19 .args in
+    let p = c19 .pre in
+    start-desk (a .n) (a .k) (a .words .now) (a .s .now) (a .rows .now) (c12 .one-letter .last .0) (a .table .now) (p .0) (c12 .one-letter .ensures)
+    (p .1 .0 .0) (p .1 .0 .1) (p .1 .0 .3) (p .1 .1) (c7 .store-word .last .0) (c7 .store-word .ensures) (c .fill-rows .last .0)
+    (c .fill-rows .ensures)
 
 words : (c : tie.After-fill-rows) → wordsIn (c .before .before .before .before .before .before .before .store-word .last .0) 1 ≡ [] ∷ []
 words c =
-    let a = c .before .before .before .before .before .before .before .before .before .before .before .before .before .before .before .before .before .before .before .args in
-    let p = c .before .before .before .before .before .before .before .before .before .before .before .before .before .before .before .before .before .before .before .pre in
-    start-words (a .n) (a .k) (a .words .now) (a .s .now) (a .rows .now) (c .before .before .before .before .before .before .before .before .before .before .before .before .one-letter .last .0) (a .table .now) (p .0) (c .before .before .before .before .before .before .before .before .before .before .before .before .one-letter .ensures) (p .1 .0 .0) (p .1 .0 .1) (p .1 .0 .3) (p .1 .1) (c .before .before .before .before .before .before .before .store-word .last .0) (c .before .before .before .before .before .before .before .store-word .ensures) (c .fill-rows .last .0) (c .fill-rows .ensures)
+    let c7 = c .before .before .before .before .before .before .before in
+    let c12 = c7 .before .before .before .before .before in
+    let c19 = c12 .before .before .before .before .before .before .before in
+    let a = c19 .args in
+    let p = c19 .pre in
+    start-words (a .n) (a .k) (a .words .now) (a .s .now) (a .rows .now) (c12 .one-letter .last .0) (a .table .now) (p .0) (c12 .one-letter .ensures)
+    (p .1 .0 .0) (p .1 .0 .1) (p .1 .0 .3) (p .1 .1) (c7 .store-word .last .0) (c7 .store-word .ensures) (c .fill-rows .last .0)
+    (c .fill-rows .ensures)
 
 one-letter-requires : tie.Need-one-letter-requires
 one-letter-requires c κs = search needs
@@ -47,21 +57,39 @@ add-fill-rows : tie.Need-add-fill-rows
 add-fill-rows c = search needs
 
 fill-rows-requires : tie.Need-fill-rows-requires
-fill-rows-requires c κs = let p = c .before .before .before .before .before .before .before .before .before .before .before .before .before .before .before .before .before .before .pre in
+fill-rows-requires c κs =
+    let c6 = c .before .before .before .before .before .before in
+    let c11 = c6 .before .before .before .before .before in
+    let c18 = c11 .before .before .before .before .before .before .before in
+    let p = c18 .pre in
     let few = p .0 .k-high in (
-      (p .0, subst (λ (l : List ℕ). Kept 48 (c .before .before .before .before .before .before .before .before .before .before .before .before .before .before .before .before .before .before .args .k) l 1) (sym (c .before .before .before .before .before .before .store-word .ensures)) (first-kept (c .before .before .before .before .before .before .before .before .before .before .before .before .before .before .before .before .before .before .args .k) (c .before .before .before .before .before .before .before .before .before .before .before .before .before .before .before .before .before .before .args .s .now) (p .1 .0 .0)), c .before .before .before .before .before .before .before .before .before .before .before .one-letter .ensures .kept),
+      (
+        p .0,
+        subst (λ (l : List ℕ). Kept 48 (c18 .args .k) l 1) (sym (c6 .store-word .ensures))
+            (first-kept (c18 .args .k) (c18 .args .s .now) (p .1 .0 .0)),
+        c11 .one-letter .ensures .kept,
+      ),
       (omega arith, omega arith, omega (arith, p .1 .0 .3), omega arith, omega arith, p .1 .0 .4),
     )
 
 close-requires : tie.Need-close-requires
-close-requires c κs = let a = c .before .before .before .before .before .before .before .before .before .before .before .before .before .before .before .before .before .before .before .before .before .before .before .before .before .before .before .before .args in
-    let p = c .before .before .before .before .before .before .before .before .before .before .before .before .before .before .before .before .before .before .before .before .before .before .before .before .before .before .before .before .pre in
-    let O = c .before .before .before .before .before .before .before .before .before .before .before .before .before .before .before .before .before .before .before .before .before .one-letter .ensures in
+close-requires c κs =
+    let c9 = c .before .before .before .before .before .before .before .before .before in
+    let c21 = c9 .before .before .before .before .before .before .before .before .before .before .before .before in
+    let c28 = c21 .before .before .before .before .before .before .before in
+    let a = c28 .args in
+    let p = c28 .pre in
+    let O = c21 .one-letter .ensures in
     let q = ask (link (a .n) (a .k) (a .words .now)) in (
-      desk (c .before .before .before .before .before .before .before .before .before),
+      desk c9,
       (
-        subst (λ (X : List Word). Told q (columnsIn (c .before .before .before .before .before .before .before .before .before .before .before .before .before .before .before .before .before .before .before .before .before .one-letter .last .0) (a .k)) X) (sym (words (c .before .before .before .before .before .before .before .before .before))) (told-one q (columnsIn (c .before .before .before .before .before .before .before .before .before .before .before .before .before .before .before .before .before .before .before .before .before .one-letter .last .0) (a .k))),
-        (subst (λ (X : List Word). Columns 1 X) (sym (O .are)) (one-letter-long (a .k)), omega (arith, c .before .before .before .before .before .before .before .before .before .fill-rows .kept .1 .1 .1 .1 .1 .1 .1 .0, p .1 .0 .4)),
+        subst (λ (X : List Word). Told q (columnsIn (c21 .one-letter .last .0) (a .k)) X) (sym (words c9))
+            (told-one q (columnsIn (c21 .one-letter .last .0) (a .k))),
+        (
+          subst (λ (X : List Word). Columns 1 X) (sym (O .are)) (one-letter-long (a .k)),
+          omega
+              (arith, c9 .fill-rows .kept .1 .1 .1 .1 .1 .1 .1 .0, p .1 .0 .4),
+        ),
       ),
     )
 
@@ -78,16 +106,25 @@ same-length-4 : tie.Need-same-length-4
 same-length-4 c = search needs
 
 returns : tie.Need-returns
-returns c = let a = c .before .before .before .before .before .before .before .before .before .before .before .before .before .before .before .before .before .before .before .before .before .before .before .before .before .before .before .before .before .before .before .before .before .before .before .args in
-    let p = c .before .before .before .before .before .before .before .before .before .before .before .before .before .before .before .before .before .before .before .before .before .before .before .before .before .before .before .before .before .before .before .before .before .before .before .pre in
-    let O = c .before .before .before .before .before .before .before .before .before .before .before .before .before .before .before .before .before .before .before .before .before .before .before .before .before .before .before .before .one-letter .ensures in
-    let x = c .before .before .before .before .before .before .close .ensures in (
+returns c =
+    let c6 = c .before .before .before .before .before .before in
+    let c16 = c6 .before .before .before .before .before .before .before .before .before .before in
+    let c23 = c16 .before .before .before .before .before .before .before in
+    let c28 = c23 .before .before .before .before .before in
+    let c35 = c28 .before .before .before .before .before .before .before in
+    let a = c35 .args in
+    let p = c35 .pre in
+    let O = c28 .one-letter .ensures in
+    let x = c6 .close .ensures in (
       x .0,
       (
         O .are,
         (
-          x .1 .0 ∙ ap₂ (rules.close (ask (link (a .n) (a .k) (a .words .now))) (a .k) (a .n)) (O .are) (words (c .before .before .before .before .before .before .before .before .before .before .before .before .before .before .before .before)),
-          beyond-then (start-beyond (a .n) (a .k) (a .words .now) (a .s .now) (a .rows .now) (c .before .before .before .before .before .before .before .before .before .before .before .before .before .before .before .before .before .before .before .before .before .before .before .before .before .before .before .before .one-letter .last .0) (a .table .now) (p .0) O (p .1 .0 .0) (p .1 .0 .1) (p .1 .0 .3) (p .1 .1) (c .before .before .before .before .before .before .before .before .before .before .before .before .before .before .before .before .before .before .before .before .before .before .before .store-word .last .0) (c .before .before .before .before .before .before .before .before .before .before .before .before .before .before .before .before .before .before .before .before .before .before .before .store-word .ensures) (c .before .before .before .before .before .before .before .before .before .before .before .before .before .before .before .before .fill-rows .last .0) (c .before .before .before .before .before .before .before .before .before .before .before .before .before .before .before .before .fill-rows .ensures)) (x .1 .1),
+          x .1 .0 ∙ ap₂ (rules.close (ask (link (a .n) (a .k) (a .words .now))) (a .k) (a .n)) (O .are) (words c16),
+          beyond-then
+              (start-beyond (a .n) (a .k) (a .words .now) (a .s .now) (a .rows .now) (c28 .one-letter .last .0) (a .table .now) (p .0) O (p .1 .0 .0)
+              (p .1 .0 .1) (p .1 .0 .3) (p .1 .1) (c23 .store-word .last .0) (c23 .store-word .ensures) (c16 .fill-rows .last .0) (c16 .fill-rows .ensures))
+              (x .1 .1),
         ),
       ),
     )

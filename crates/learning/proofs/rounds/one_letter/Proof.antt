@@ -25,7 +25,9 @@ slice-aggregate-store-word : tie.Need-slice-aggregate-store-word Inv-loop μ-loo
 slice-aggregate-store-word c = search needs
 
 store-word-requires : tie.Need-store-word-requires Inv-loop μ-loop
-store-word-requires c κs = (omega (arith, c .before .before .before .loop .inv .1, c .before .before .before .before .before .pre .0), (omega arith, omega arith))
+store-word-requires c κs =
+    let c5 = c .before .before .before .before .before in
+    (omega (arith, c .before .before .before .loop .inv .1, c5 .pre .0), (omega arith, omega arith))
 
 add-a : tie.Need-add-a Inv-loop μ-loop
 add-a c = search needs
@@ -34,17 +36,25 @@ loop-less : tie.Need-loop-less Inv-loop μ-loop
 loop-less c = search needs
 
 loop-again : tie.Need-loop-again Inv-loop μ-loop
-loop-again c = let l = c .before .before .before .before .before .before .loop in (
-  search needs,
-  omega (arith, c .before .before .store-word .kept .0, l .inv .1),
-  subst (λ (x : List ℕ). Ones (c .before .before .before .before .before .before .before .before .args .k) x (l .a + 1)) (sym (c .before .before .store-word .ensures)) (ones-more (l .inv .2) (search needs) (c .before .before .before .before .before .before .before .before .pre .0) (omega (arith, l .inv .1, c .before .before .before .before .before .before .before .before .pre .1)) (l .a % 256) (omega (arith, c .before .before .before .before .before .before .before .before .pre .0))),
-)
+loop-again c =
+    let c6 = c .before .before .before .before .before .before in
+    let c8 = c6 .before .before in
+    let l = c6 .loop in (
+      search needs,
+      omega (arith, c .before .before .store-word .kept .0, l .inv .1),
+      subst (λ (x : List ℕ). Ones (c8 .args .k) x (l .a + 1))
+          (sym (c .before .before .store-word .ensures))
+          (ones-more (l .inv .2) (search needs) (c8 .pre .0) (omega (arith, l .inv .1, c8 .pre .1)) (l .a % 256) (omega (arith, c8 .pre .0))),
+    )
 
 same-length : tie.Need-same-length Inv-loop μ-loop
 same-length c = omega (arith, c .before .loop .inv .1)
 
 returns : tie.Need-returns Inv-loop μ-loop
-returns c = let l = c .before .loop in let e : l .a ≡ c .before .before .before .args .k = omega arith in subst (λ (i : ℕ). Ones (c .before .before .before .args .k) (l .columns) i) e (l .inv .2)
+returns c =
+    let l = c .before .loop in
+    let e : l .a ≡ c .before .before .before .args .k = omega arith in
+    subst (λ (i : ℕ). Ones (c .before .before .before .args .k) (l .columns) i) e (l .inv .2)
 
 pub one-letter-spec : {M : Type 1} → statement M
 one-letter-spec =

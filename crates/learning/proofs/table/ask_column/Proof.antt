@@ -26,7 +26,10 @@ joined c =
     )
 
 copy-word-requires : tie.Need-copy-word-requires
-copy-word-requires c κs = let K = c .before .before .before .before .pre .1 .0 in let l = c .before .before .before .before .pre .1 .1 .0 in (kept-room K _ l, (K .slots .fits _ l, omega (arith, c .before .before .before .before .pre .1 .1 .2)))
+copy-word-requires c κs =
+    let K = c .before .before .before .before .pre .1 .0 in
+    let l = c .before .before .before .before .pre .1 .1 .0 in
+    (kept-room K _ l, (K .slots .fits _ l, omega (arith, c .before .before .before .before .pre .1 .1 .2)))
 
 slice-reshare-prefix-last-output : tie.Need-slice-reshare-prefix-last-output
 slice-reshare-prefix-last-output c = omega (arith, joined (c .before .before) .0)
@@ -35,13 +38,26 @@ slice-aggregate-last-output : tie.Need-slice-aggregate-last-output
 slice-aggregate-last-output c = sym (length-take-le _ _ (joined (c .before .before .before) .0))
 
 last-output-requires : tie.Need-last-output-requires
-last-output-requires c κs = let a = c .before .before .before .before .before .before .before .before .args in (c .before .before .before .before .before .before .before .before .pre .0, rw (joined (c .before .before .before) .1) (below-letters (a .k) (take (a .len) (a .word .now) ++ slot 94 (a .columns .now) (a .c)) (below-append (a .k) (take (a .len) (a .word .now)) (slot 94 (a .columns .now) (a .c)) (c .before .before .before .before .before .before .before .before .pre .1 .1 .3) (kept-letters (c .before .before .before .before .before .before .before .before .pre .1 .0) _ (c .before .before .before .before .before .before .before .before .pre .1 .1 .0)))))
+last-output-requires c κs =
+    let c8 = c .before .before .before .before .before .before .before .before in
+    let a = c8 .args in (
+      c8 .pre .0,
+      rw (joined (c .before .before .before) .1) (below-letters (a .k) (take (a .len) (a .word .now) ++ slot 94 (a .columns .now) (a .c))
+          (below-append (a .k) (take (a .len) (a .word .now)) (slot 94 (a .columns .now) (a .c)) (c8 .pre .1 .1 .3)
+          (kept-letters (c8 .pre .1 .0) _ (c8 .pre .1 .1 .0)))),
+    )
 
 same-length : tie.Need-same-length
 same-length c = search needs
 
 returns : tie.Need-returns
-returns c = let a = c .before .before .before .before .before .before .before .before .before .args in (c .last-output .ensures ∙ ap (ask (link (a .n) (a .k) (a .words .now))) (joined (c .before .before .before .before) .1), ap (take (a .len)) (c .before .before .before .before .copy-word .ensures .1) ∙ put-keeps (a .len) (slot 94 (a .columns .now) (a .c)) (a .word .now) (omega arith))
+returns c =
+    let c9 = c .before .before .before .before .before .before .before .before .before in
+    let a = c9 .args in (
+      c .last-output .ensures ∙ ap (ask (link (a .n) (a .k) (a .words .now))) (joined (c .before .before .before .before) .1),
+      ap (take (a .len))
+          (c .before .before .before .before .copy-word .ensures .1) ∙ put-keeps (a .len) (slot 94 (a .columns .now) (a .c)) (a .word .now) (omega arith),
+    )
 
 pub ask-column-spec : {M : Type 1} → statement M
 ask-column-spec =

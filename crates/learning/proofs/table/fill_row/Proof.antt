@@ -22,10 +22,29 @@ abbrev μ-loop : tie.MeasureT-loop
 μ-loop row₀ words n k word₀ len columns from to c₀ row word c = to - c
 
 loop-holds : tie.Need-loop-holds Inv-loop μ-loop
-loop-holds c = let a = c .before .before .before .before .args in (search needs, c .before .before .before .before .pre .1 .1 .0, refl, refl, sym (ap (λ (x : List ℕ). put (a .from) x (a .row .now)) (cells-from-none (ask (link (a .n) (a .k) (a .words .now))) (a .columns .now) (a .from) (take (a .len) (a .word .now))) ∙ put-none (a .from) (a .row .now)), refl)
+loop-holds c =
+    let a = c .before .before .before .before .args in (
+      search needs,
+      c .before .before .before .before .pre .1 .1 .0,
+      refl,
+      refl,
+      sym (ap (λ (x : List ℕ). put (a .from) x (a .row .now))
+          (cells-from-none (ask (link (a .n) (a .k) (a .words .now))) (a .columns .now) (a .from) (take (a .len) (a .word .now))) ∙ put-none (a .from)
+          (a .row .now)),
+      refl,
+    )
 
 ask-column-requires : tie.Need-ask-column-requires Inv-loop μ-loop
-ask-column-requires c κs = let a = c .before .before .before .before .before .before .before .args in let l = c .before .before .loop in (c .before .before .before .before .before .before .before .pre .0, (c .before .before .before .before .before .before .before .pre .1 .0, (search needs, c .before .before .before .before .before .before .before .pre .1 .1 .2, omega (arith, l .inv .2), subst (λ (x : Word). Below (a .k) x) (sym (l .inv .3)) (c .before .before .before .before .before .before .before .pre .1 .1 .4))))
+ask-column-requires c κs =
+    let c7 = c .before .before .before .before .before .before .before in
+    let a = c7 .args in
+    let l = c .before .before .loop in (
+      c7 .pre .0,
+      (
+        c7 .pre .1 .0,
+        (search needs, c7 .pre .1 .1 .2, omega (arith, l .inv .2), subst (λ (x : Word). Below (a .k) x) (sym (l .inv .3)) (c7 .pre .1 .1 .4)),
+      ),
+    )
 
 slice-write-row : tie.Need-slice-write-row Inv-loop μ-loop
 slice-write-row c = omega (arith, c .before .before .before .before .before .loop .inv .5)
@@ -57,7 +76,13 @@ same-length-2 : tie.Need-same-length-2 Inv-loop μ-loop
 same-length-2 c = search needs
 
 returns : tie.Need-returns Inv-loop μ-loop
-returns c = let a = c .before .before .before .before .before .before .args in let l = c .before .loop in let e : l .c ≡ a .to = omega arith in l .inv .4 ∙ ap (λ (x : ℕ). put (a .from) (cellsFrom (ask (link (a .n) (a .k) (a .words .now))) (a .columns .now) (a .from) x (take (a .len) (a .word .now))) (a .row .now)) e
+returns c =
+    let c6 = c .before .before .before .before .before .before in
+    let a = c6 .args in
+    let l = c .before .loop in
+    let e : l .c ≡ a .to = omega arith in
+    l .inv .4 ∙ ap (λ (x : ℕ). put (a .from)
+    (cellsFrom (ask (link (a .n) (a .k) (a .words .now))) (a .columns .now) (a .from) x (take (a .len) (a .word .now))) (a .row .now)) e
 
 pub fill-row-spec : {M : Type 1} → statement M
 fill-row-spec =

@@ -25,10 +25,19 @@ unfolding openIn
 loop-holds c = (search needs, c .before .pre .0 .1, refl)
 
 state-of-requires : tie.Need-state-of-requires Inv-loop μ-loop
-state-of-requires c κs = ((c .before .before .before .pre .0 .0, omega (arith, c .before .before .before .pre .0 .2, c .before .before .before .pre .0 .3)), c .before .before .before .pre .1)
+state-of-requires c κs = (
+  (c .before .before .before .pre .0 .0, omega (arith, c .before .before .before .pre .0 .2, c .before .before .before .pre .0 .3)),
+  c .before
+      .before .before .pre .1,
+)
 
 returns : tie.Need-returns Inv-loop μ-loop
-returns c = let a = c .before .before .before .before .before .args in let l = c .before .before .before .loop in sym (l .inv .2 ∙ seek-hits (test (a .table .now) (a .rows .now) (a .m) (a .c)) (a .last) (l .r) (search needs) (eq-eqb _ _ (sym (c .before .state-of .ensures) ∙ c .if1 .taken)))
+returns c =
+    let c5 = c .before .before .before .before .before in
+    let a = c5 .args in
+    let l = c .before .before .before .loop in
+    sym (l .inv .2 ∙ seek-hits (test (a .table .now) (a .rows .now) (a .m) (a .c)) (a .last) (l .r) (search needs)
+    (eq-eqb _ _ (sym (c .before .state-of .ensures) ∙ c .if1 .taken)))
 
 add-r : tie.Need-add-r Inv-loop μ-loop
 add-r c = search needs
@@ -37,10 +46,21 @@ loop-less : tie.Need-loop-less Inv-loop μ-loop
 loop-less c = search needs
 
 loop-again : tie.Need-loop-again Inv-loop μ-loop
-loop-again c = let a = c .before .before .before .before .before .args in let l = c .before .before .before .loop in (search needs, search needs, l .inv .2 ∙ seek-passes (test (a .table .now) (a .rows .now) (a .m) (a .c)) (a .last) (l .r) (search needs) (ne-eqb _ _ (λ e. c .if1 .left (c .before .state-of .ensures ∙ e))))
+loop-again c =
+    let c5 = c .before .before .before .before .before in
+    let a = c5 .args in
+    let l = c .before .before .before .loop in (
+      search needs,
+      search needs,
+      l .inv .2 ∙ seek-passes (test (a .table .now) (a .rows .now) (a .m) (a .c)) (a .last) (l .r) (search needs)
+          (ne-eqb _ _ (λ e. c .if1 .left (c .before .state-of .ensures ∙ e))),
+    )
 
 returns-2 : tie.Need-returns-2 Inv-loop μ-loop
-returns-2 c = let a = c .before .before .before .args in let l = c .before .loop in sym (l .inv .2 ∙ seek-ends (test (a .table .now) (a .rows .now) (a .m) (a .c)) (a .last) (l .r) (search needs))
+returns-2 c =
+    let a = c .before .before .before .args in
+    let l = c .before .loop in
+    sym (l .inv .2 ∙ seek-ends (test (a .table .now) (a .rows .now) (a .m) (a .c)) (a .last) (l .r) (search needs))
 
 pub open-row-spec : {M : Type 1} → statement M
 open-row-spec =

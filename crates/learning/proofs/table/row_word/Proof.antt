@@ -27,7 +27,10 @@ div-j : tie.Need-div-j
 div-j c = search needs
 
 copy-word-requires : tie.Need-copy-word-requires
-copy-word-requires c κs = let K = c .before .before .before .before .pre .0 in let l = known (c .before) in (kept-room K _ l, (K .slots .fits _ l, search needs))
+copy-word-requires c κs =
+    let K = c .before .before .before .before .pre .0 in
+    let l = known (c .before) in
+    (kept-room K _ l, (K .slots .fits _ l, search needs))
 
 sub-word : tie.Need-sub-word
 sub-word c = search needs
@@ -39,23 +42,36 @@ cast-word : tie.Need-cast-word
 cast-word c = search needs
 
 slice-write-word : tie.Need-slice-write-word
-slice-write-word c = let a = c .before .before .before .before .before .before .before .args in
+slice-write-word c =
+    let c7 = c .before .before .before .before .before .before .before in
+    let a = c7 .args in
     let w = slot 48 (a .s .now) ((a .r - 1) / a .k) in
-    let short = kept-long (c .before .before .before .before .before .before .before .pre .0) _ (known (c .before .before .before .before)) in
-    omega (arith, c .before .before .copy-word .ensures .0, ap length (c .before .before .copy-word .ensures .1) ∙ put-length 0 w (a .word .now) (omega arith))
+    let short = kept-long (c7 .pre .0) _ (known (c .before .before .before .before)) in
+    omega (
+      arith,
+      c .before .before .copy-word .ensures .0,
+      ap length (c .before .before .copy-word .ensures .1) ∙ put-length 0 w (a .word .now)
+          (omega arith),
+    )
 
 add-result : tie.Need-add-result
-add-result c = let K = c .before .before .before .before .before .before .before .pre .0 in let l = known (c .before .before .before .before) in omega (arith, c .before .before .copy-word .ensures .0, kept-long K _ l)
+add-result c =
+    let c7 = c .before .before .before .before .before .before .before in
+    let K = c7 .pre .0 in
+    let l = known (c .before .before .before .before) in
+    omega (arith, c .before .before .copy-word .ensures .0, kept-long K _ l)
 
 same-length : tie.Need-same-length
 same-length c = search needs
 
 returns-2 : tie.Need-returns-2
-returns-2 c = let a = c .before .before .before .before .before .before .before .args in
-    let K = c .before .before .before .before .before .before .before .pre .0 in
+returns-2 c =
+    let c7 = c .before .before .before .before .before .before .before in
+    let a = c7 .args in
+    let K = c7 .pre .0 in
     let l = known (c .before .before .before .before) in
-    row-put 48 (a .k) (a .s .now) (a .m) (a .r) _ _ (a .word .now) (c .before .before .before .before .before .before .before .pre .1 .0) (c .before .before .before .before .before .before .before .pre .1 .1) (omega arith) (c .before .before .before .before .before .before .before .pre .1 .2) (c .before .before .copy-word .ensures .0) (c .before .before .copy-word .ensures .1)
-    (omega (arith, kept-long K _ l))
+    row-put 48 (a .k) (a .s .now) (a .m) (a .r) _ _ (a .word .now) (c7 .pre .1 .0) (c7 .pre .1 .1) (omega arith) (c7 .pre .1 .2)
+    (c .before .before .copy-word .ensures .0) (c .before .before .copy-word .ensures .1) (omega (arith, kept-long K _ l))
 
 pub row-word-spec : {M : Type 1} → statement M
 row-word-spec =

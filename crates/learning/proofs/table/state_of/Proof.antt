@@ -30,10 +30,17 @@ element-copy-out-same-cells : tie.Need-element-copy-out-same-cells Inv-loop μ-l
 element-copy-out-same-cells c = search needs
 
 same-cells-requires : tie.Need-same-cells-requires Inv-loop μ-loop
-same-cells-requires c κs = let l = c .before .before .loop in (c .before .before .before .before .pre .1 (l .j) (search needs), c .before .before .before .before .pre .0 .1)
+same-cells-requires c κs =
+    let l = c .before .before .loop in
+    (c .before .before .before .before .pre .1 (l .j) (search needs), c .before .before .before .before .pre .0 .1)
 
 returns : tie.Need-returns Inv-loop μ-loop
-returns c = let a = c .before .before .before .before .before .before .args in let l = c .before .before .before .before .loop in sym (l .inv .1 ∙ seek-hits (test (a .table .now) (a .rows .now) (a .c) (a .r)) (a .m) (l .j) (search needs) (sym (c .before .same-cells .ensures) ∙ c .if1 .taken))
+returns c =
+    let c6 = c .before .before .before .before .before .before in
+    let a = c6 .args in
+    let l = c .before .before .before .before .loop in
+    sym (l .inv .1 ∙ seek-hits (test (a .table .now) (a .rows .now) (a .c) (a .r)) (a .m) (l .j) (search needs)
+    (sym (c .before .same-cells .ensures) ∙ c .if1 .taken))
 
 add-j : tie.Need-add-j Inv-loop μ-loop
 add-j c = search needs
@@ -42,10 +49,20 @@ loop-less : tie.Need-loop-less Inv-loop μ-loop
 loop-less c = search needs
 
 loop-again : tie.Need-loop-again Inv-loop μ-loop
-loop-again c = let a = c .before .before .before .before .before .before .args in let l = c .before .before .before .before .loop in (search needs, l .inv .1 ∙ seek-passes (test (a .table .now) (a .rows .now) (a .c) (a .r)) (a .m) (l .j) (search needs) (sym (c .before .same-cells .ensures) ∙ c .if1 .left))
+loop-again c =
+    let c6 = c .before .before .before .before .before .before in
+    let a = c6 .args in
+    let l = c .before .before .before .before .loop in (
+      search needs,
+      l .inv .1 ∙ seek-passes (test (a .table .now) (a .rows .now) (a .c) (a .r)) (a .m) (l .j) (search needs)
+          (sym (c .before .same-cells .ensures) ∙ c .if1 .left),
+    )
 
 returns-2 : tie.Need-returns-2 Inv-loop μ-loop
-returns-2 c = let a = c .before .before .before .args in let l = c .before .loop in sym (l .inv .1 ∙ seek-ends (test (a .table .now) (a .rows .now) (a .c) (a .r)) (a .m) (l .j) (search needs))
+returns-2 c =
+    let a = c .before .before .before .args in
+    let l = c .before .loop in
+    sym (l .inv .1 ∙ seek-ends (test (a .table .now) (a .rows .now) (a .c) (a .r)) (a .m) (l .j) (search needs))
 
 pub state-of-spec : {M : Type 1} → statement M
 state-of-spec =

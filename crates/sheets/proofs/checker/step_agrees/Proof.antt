@@ -39,9 +39,14 @@ next-requires-2 c κs = let p = c .before .before .before .before .before .befor
     rw (c .before .before .before .before .before .before .wide .ensures) (model-in (p .0) _ _ (p .1 .2) (p .1 .1))
 
 returns-2 : tie.Need-returns-2
-returns-2 c = let p = c .before .before .before .before .before .before .before .before .before .before .before .before .pre in
-    let agree = rw (c .before .before .before .before .before .output2 .ensures, c .before .before .before .before .before .before .output .ensures, c .before .before .before .before .before .before .before .wide .ensures) at (c .before .before .before .before .if1 .left) in
-    rw (c .next2 .ensures, c .before .wide2 .ensures, c .before .before .before .next .ensures, c .before .before .before .before .before .before .before .wide .ensures)
+returns-2 c =
+    let c5 = c .before .before .before .before .before in
+    let c6 = c5 .before in
+    let c7 = c6 .before in
+    let c12 = c7 .before .before .before .before .before in
+    let p = c12 .pre in
+    let agree = rw (c5 .output2 .ensures, c6 .output .ensures, c7 .wide .ensures) at (c .before .before .before .before .if1 .left) in
+    rw (c .next2 .ensures, c .before .wide2 .ensures, c .before .before .before .next .ensures, c7 .wide .ensures)
     (sym (step-is (p .0) _ _ (p .1 .0) (p .1 .1) ∙ rw (is-true _ _ agree) refl))
 
 pub step-agrees-spec : {M : Type 1} → statement M

@@ -38,7 +38,12 @@ within-requires-2 c κs = search needs
 
 returns-2 : tie.Need-returns-2
 unfolding sheetBody
-returns-2 c = simp (sym (c .before .before .before .within .ensures) ∙ not-false _ (c .before .before .if1 .left), sym (c .before .within2 .ensures) ∙ not-true _ (c .if2 .taken))
+returns-2 c =
+    simp (
+      sym (c .before .before .before .within .ensures) ∙ not-false _ (c .before .before .if1 .left),
+      sym (c .before .within2 .ensures) ∙ not-true
+          _ (c .if2 .taken),
+    )
 
 rows-check-requires : tie.Need-rows-check-requires
 rows-check-requires c κs = search needs
@@ -47,28 +52,60 @@ enum-known-c : tie.Need-enum-known-c
 enum-known-c c = search needs
 
 returns-3 : tie.Need-returns-3
-returns-3 c = let a = c .before .before .before .before .before .before .before .before .before .args in sym (body-refused (a .bytes .now) (a .n) (a .k) (c .before .before .before .before .before .before .before .before .before .pre) (n-within (c .before .before .before .before)) (k-within (c .before .before .before .before)) _ (sym (c .before .before .before .rows-check .ensures) ∙ ap checked (c .before .c .given .1)))
+returns-3 c =
+    let c9 = c .before .before .before .before .before .before .before .before .before in
+    let a = c9 .args in
+    sym (body-refused (a .bytes .now) (a .n) (a .k) (c9 .pre) (n-within (c .before .before .before .before))
+    (k-within (c .before .before .before .before)) _ (sym (c .before .before .before .rows-check .ensures) ∙ ap checked (c .before .c .given .1)))
 
 enum-told : tie.Need-enum-told
 enum-told c = search needs
 
 mul-if3 : tie.Need-mul-if3
-mul-if3 c = let a = c .before .before .before .before .before .before .before .before .args in let h : a .k ≤ 12 = within-both 1 12 _ (k-within (c .before .before .before)) .1 in search needs
+mul-if3 c =
+    let c8 = c .before .before .before .before .before .before .before .before in
+    let a = c8 .args in
+    let h : a .k ≤ 12 = within-both 1 12 _ (k-within (c .before .before .before)) .1 in
+    search needs
 
 add-if3 : tie.Need-add-if3
-add-if3 c = let a = c .before .before .before .before .before .before .before .before .args in let h : a .k ≤ 12 = within-both 1 12 _ (k-within (c .before .before .before)) .1 in search needs
+add-if3 c =
+    let c8 = c .before .before .before .before .before .before .before .before in
+    let a = c8 .args in
+    let h : a .k ≤ 12 = within-both 1 12 _ (k-within (c .before .before .before)) .1 in
+    search needs
 
 mul-if3-2 : tie.Need-mul-if3-2
-mul-if3-2 c = let n = within-both 1 48 _ (n-within (c .before .before .before)) in let k = within-both 1 12 _ (k-within (c .before .before .before)) in let a = c .before .before .before .before .before .before .before .before .args in let m = rows-most (a .n) (a .k) (n .1) (k .1) in search needs
+mul-if3-2 c =
+    let c8 = c .before .before .before .before .before .before .before .before in
+    let n = within-both 1 48 _ (n-within (c .before .before .before)) in
+    let k = within-both 1 12 _ (k-within (c .before .before .before)) in
+    let a = c8 .args in
+    let m = rows-most (a .n) (a .k) (n .1) (k .1) in
+    search needs
 
 add-if3-2 : tie.Need-add-if3-2
-add-if3-2 c = let n = within-both 1 48 _ (n-within (c .before .before .before)) in let k = within-both 1 12 _ (k-within (c .before .before .before)) in let a = c .before .before .before .before .before .before .before .before .args in let m = rows-most (a .n) (a .k) (n .1) (k .1) in search needs
+add-if3-2 c =
+    let c8 = c .before .before .before .before .before .before .before .before in
+    let n = within-both 1 48 _ (n-within (c .before .before .before)) in
+    let k = within-both 1 12 _ (k-within (c .before .before .before)) in
+    let a = c8 .args in
+    let m = rows-most (a .n) (a .k) (n .1) (k .1) in
+    search needs
 
 returns-4 : tie.Need-returns-4
-returns-4 c = let a = c .before .before .before .before .before .before .before .before .before .args in sym (body-left-over (a .bytes .now) (a .n) (a .k) (c .before .before .before .before .before .before .before .before .before .pre) (n-within (c .before .before .before .before)) (k-within (c .before .before .before .before)) (passed (c .before)) (omega arith))
+returns-4 c =
+    let c9 = c .before .before .before .before .before .before .before .before .before in
+    let a = c9 .args in
+    sym (body-left-over (a .bytes .now) (a .n) (a .k) (c9 .pre) (n-within (c .before .before .before .before))
+    (k-within (c .before .before .before .before)) (passed (c .before)) (omega arith))
 
 returns-5 : tie.Need-returns-5
-returns-5 c = let a = c .before .before .before .before .before .before .before .before .before .args in sym (body-sound (a .bytes .now) (a .n) (a .k) (c .before .before .before .before .before .before .before .before .before .pre) (n-within (c .before .before .before .before)) (k-within (c .before .before .before .before)) (passed (c .before)) (omega arith))
+returns-5 c =
+    let c9 = c .before .before .before .before .before .before .before .before .before in
+    let a = c9 .args in
+    sym (body-sound (a .bytes .now) (a .n) (a .k) (c9 .pre) (n-within (c .before .before .before .before))
+    (k-within (c .before .before .before .before)) (passed (c .before)) (omega arith))
 
 pub body-check-spec : {M : Type 1} → statement M
 body-check-spec =

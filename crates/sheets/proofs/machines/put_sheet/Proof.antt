@@ -14,7 +14,11 @@ use Rattle.sheets.proofs.machines.put_sheet.Tie as tie
 
 -- the rows fit, and their words are there
 room : (c : tie.After-slice-known2) → let a = c .before .before .before .before .before .before .before .args in (a .n * (2 + 2 * a .k) ≤ 1248) × (a .n * a .k ≤ length (a .words .now))
-room c = let a = c .before .before .before .before .before .before .before .args in let s : Sound (a .n) (a .k) (a .words .now) = c .before .before .before .before .before .before .before .pre .0 in (rows-most (a .n) (a .k) (s .n-high) (s .k-high), omega (arith, s .long))
+room c =
+    let c7 = c .before .before .before .before .before .before .before in
+    let a = c7 .args in
+    let s : Sound (a .n) (a .k) (a .words .now) = c7 .pre .0 in
+    (rows-most (a .n) (a .k) (s .n-high) (s .k-high), omega (arith, s .long))
 
 put-mark-requires : tie.Need-put-mark-requires
 put-mark-requires c κs = search needs
@@ -35,11 +39,18 @@ put-rows-requires : tie.Need-put-rows-requires
 put-rows-requires c κs = let r = room (c .before) in (r .1, simp length-set (omega arith))
 
 same-length : tie.Need-same-length
-same-length c = omega (arith, simp length-set at (c .before .before .put-rows .kept .0), c .before .before .before .before .before .before .put-mark .kept .0)
+same-length c =
+    let c6 = c .before .before .before .before .before .before in
+    omega (arith, simp length-set at (c .before .before .put-rows .kept .0), c6 .put-mark .kept .0)
 
 returns : tie.Need-returns
-returns c = let a = c .before .before .before .before .before .before .before .before .before .before .before .args in let r = room (c .before .before .before .before) in
-    c .before .before .put-rows .ensures ∙ ap (λ (x : List ℕ). put 4 (rowBytes (a .k) (a .n) (a .words .now)) (set (set x 2 (a .n)) 3 (a .k))) (c .before .before .before .before .before .before .put-mark .ensures) ∙ put-machine (a .n) (a .k) (a .words .now) (a .area .now) (r .1) (omega arith)
+returns c =
+    let c6 = c .before .before .before .before .before .before in
+    let c11 = c6 .before .before .before .before .before in
+    let a = c11 .args in
+    let r = room (c .before .before .before .before) in
+    c .before .before .put-rows .ensures ∙ ap (λ (x : List ℕ). put 4 (rowBytes (a .k) (a .n) (a .words .now)) (set (set x 2 (a .n)) 3 (a .k)))
+    (c6 .put-mark .ensures) ∙ put-machine (a .n) (a .k) (a .words .now) (a .area .now) (r .1) (omega arith)
 
 pub put-sheet-spec : {M : Type 1} → statement M
 put-sheet-spec =

@@ -53,8 +53,15 @@ loop-less : tie.Need-loop-less Inv-loop μ-loop
 loop-less c = search needs
 
 loop-again : tie.Need-loop-again Inv-loop μ-loop
-loop-again c = let a = c .before .before .before .before .before .before .before .args in let l = c .before .before .before .before .loop in
-    (search needs, simp length-set (l .inv .1), rw (c .word-of .ensures, l .inv .2) (set-pairs-more (a .at) (a .from) (l .i) (a .bytes .now) (a .area .now) (omega arith)))
+loop-again c =
+    let c7 = c .before .before .before .before .before .before .before in
+    let a = c7 .args in
+    let l = c .before .before .before .before .loop in (
+      search needs,
+      simp length-set (l .inv .1),
+      rw (c .word-of .ensures, l .inv .2)
+          (set-pairs-more (a .at) (a .from) (l .i) (a .bytes .now) (a .area .now) (omega arith)),
+    )
 
 same-length : tie.Need-same-length Inv-loop μ-loop
 same-length c = search needs

@@ -20,7 +20,10 @@ enum-known-c : tie.Need-enum-known-c
 enum-known-c c = search needs
 
 returns : tie.Need-returns
-returns c = let a = c .before .before .before .before .before .before .args in sym (head-refused (a .bytes .now) _ (sym (c .before .before .before .mark-check .ensures) ∙ ap checked (c .before .c .given .1)))
+returns c =
+    let c6 = c .before .before .before .before .before .before in
+    let a = c6 .args in
+    sym (head-refused (a .bytes .now) _ (sym (c .before .before .before .mark-check .ensures) ∙ ap checked (c .before .c .given .1)))
 
 enum-told : tie.Need-enum-told
 enum-told c = search needs
@@ -44,7 +47,13 @@ body-check-requires : tie.Need-body-check-requires
 body-check-requires c κs = search needs
 
 returns-3 : tie.Need-returns-3
-returns-3 c = let a = c .before .before .before .before .before .before .before .before .before .before .before .args in c .body-check .ensures ∙ rw (c .before .wide2 .ensures, c .before .before .before .wide .ensures) (ap outcome (sym (head-present (a .bytes .now) (marked (c .before .before .before .before .before .before)) (c .before .before .before .before .before .if1 .left))))
+returns-3 c =
+    let c5 = c .before .before .before .before .before in
+    let c6 = c5 .before in
+    let c11 = c6 .before .before .before .before .before in
+    let a = c11 .args in
+    c .body-check .ensures ∙ rw (c .before .wide2 .ensures, c .before .before .before .wide .ensures)
+    (ap outcome (sym (head-present (a .bytes .now) (marked c6) (c5 .if1 .left))))
 
 pub sheet-check-spec : {M : Type 1} → statement M
 sheet-check-spec =

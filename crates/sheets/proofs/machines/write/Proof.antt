@@ -17,7 +17,11 @@ sound c = sym (c .before .before .check .ensures) ∙ ap checked (c .enum-told .
 
 -- so the sheet is no longer than the longest
 most : (c : tie.After-enum-told) → let a = c .before .before .before .before .before .args in (a .n * (2 + 2 * a .k) ≤ 1248) × (a .k ≤ 12)
-most c = let a = c .before .before .before .before .before .args in let s = lent-sound (a .n) (a .k) (a .words .now) (sound c) in (rows-most (a .n) (a .k) (s .n-high) (s .k-high), s .k-high)
+most c =
+    let c5 = c .before .before .before .before .before in
+    let a = c5 .args in
+    let s = lent-sound (a .n) (a .k) (a .words .now) (sound c) in
+    (rows-most (a .n) (a .k) (s .n-high) (s .k-high), s .k-high)
 
 check-requires : tie.Need-check-requires
 check-requires c κs = search needs
@@ -26,16 +30,26 @@ enum-known-c : tie.Need-enum-known-c
 enum-known-c c = search needs
 
 returns : tie.Need-returns
-returns c = let a = c .before .before .before .before .before .before .args in sym (write-refused (a .n) (a .k) (a .words .now) (a .area .now) _ (sym (c .before .before .before .check .ensures) ∙ ap checked (c .before .c .given .1)))
+returns c =
+    let c6 = c .before .before .before .before .before .before in
+    let a = c6 .args in
+    sym (write-refused (a .n) (a .k) (a .words .now) (a .area .now) _
+    (sym (c .before .before .before .check .ensures) ∙ ap checked (c .before .c .given .1)))
 
 enum-told : tie.Need-enum-told
 enum-told c = search needs
 
 returns-2 : tie.Need-returns-2
-returns-2 c = let a = c .before .before .before .before .before .before .args in sym (write-small (a .n) (a .k) (a .words .now) (a .area .now) (sound (c .before)) (omega arith))
+returns-2 c =
+    let c6 = c .before .before .before .before .before .before in
+    let a = c6 .args in
+    sym (write-small (a .n) (a .k) (a .words .now) (a .area .now) (sound (c .before)) (omega arith))
 
 put-sheet-requires : tie.Need-put-sheet-requires
-put-sheet-requires c κs = let a = c .before .before .before .before .before .before .before .args in (lent-sound (a .n) (a .k) (a .words .now) (sound (c .before .before)), omega arith)
+put-sheet-requires c κs =
+    let c7 = c .before .before .before .before .before .before .before in
+    let a = c7 .args in
+    (lent-sound (a .n) (a .k) (a .words .now) (sound (c .before .before)), omega arith)
 
 mul-t7 : tie.Need-mul-t7
 mul-t7 c = let m = most (c .before .before .before .before .before) in search needs
@@ -53,7 +67,11 @@ same-length : tie.Need-same-length
 same-length c = search needs
 
 returns-3 : tie.Need-returns-3
-returns-3 c = let a = c .before .before .before .before .before .before .before .before .before .before .args in rw (c .before .before .put-sheet .ensures) (sym (write-done (a .n) (a .k) (a .words .now) (a .area .now) (sound (c .before .before .before .before .before)) (omega arith)))
+returns-3 c =
+    let c5 = c .before .before .before .before .before in
+    let c10 = c5 .before .before .before .before .before in
+    let a = c10 .args in
+    rw (c .before .before .put-sheet .ensures) (sym (write-done (a .n) (a .k) (a .words .now) (a .area .now) (sound c5) (omega arith)))
 
 pub write-spec : {M : Type 1} → statement M
 write-spec =

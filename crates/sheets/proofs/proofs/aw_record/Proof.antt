@@ -21,14 +21,20 @@ was-read c = sym (c .before .before .before .read .ensures) ∙ ap readOf (c .be
 
 -- the record lies in the sheet
 there : (c : tie.Else1) → let a = c .before .before .before .before .before .before .args in AwFound (a .sheet .now) (said (c .before)) (a .state) (awPlace (a .sheet .now) (a .state))
-there c = let a = c .before .before .before .before .before .before .args in aw-found (a .sheet .now) (said (c .before)) (a .state) (was-read (c .before)) (c .if1 .left)
+there c =
+    let c6 = c .before .before .before .before .before .before in
+    let a = c6 .args in
+    aw-found (a .sheet .now) (said (c .before)) (a .state) (was-read (c .before)) (c .if1 .left)
 
 -- and is found there
 found : (c : tie.After-record-place) → c .record-place .result ≡ awPlace (c .before .before .before .before .before .before .before .args .sheet .now) (c .before .before .before .before .before .before .before .args .state)
 found c = c .record-place .ensures ∙ there (c .before) .is
 
 whole : (c : tie.After-record-place) → let a = c .before .before .before .before .before .before .before .args in AwFound (a .sheet .now) (said (c .before .before)) (a .state) (c .record-place .result)
-whole c = let a = c .before .before .before .before .before .before .before .args in subst (AwFound (a .sheet .now) (said (c .before .before)) (a .state)) (sym (found c)) (there (c .before))
+whole c =
+    let c7 = c .before .before .before .before .before .before .before in
+    let a = c7 .args in
+    subst (AwFound (a .sheet .now) (said (c .before .before)) (a .state)) (sym (found c)) (there (c .before))
 
 read-requires : tie.Need-read-requires
 read-requires c κs = search needs
@@ -110,10 +116,13 @@ part-result-end-3 c = omega (arith, whole (c .before .before) .within, c .wide .
 
 returns-3 : tie.Need-returns-3
 returns-3 c =
-    let a = c .before .before .before .before .before .before .before .before .before .before .args in
+    let c10 = c .before .before .before .before .before .before .before .before .before .before in
+    let a = c10 .args in
     let at = c .before .before .before .record-place .result in
-    let n : at + 3 + c .before .wide .result - at ≡ 3 + getD (a .sheet .now) (at + 2) 0 = omega (arith, c .before .wide .ensures) in
-    (ap (λ (i : ℕ). take i (drop at (a .sheet .now))) n ∙ whole (c .before .before .before) .part, (refl, ap (λ (i : ℕ). i + a .sheet .ptr .1) (found (c .before .before .before))))
+    let n : at + 3 + c .before .wide .result - at ≡ 3 + getD (a .sheet .now) (at + 2) 0 = omega (arith, c .before .wide .ensures) in (
+      ap (λ (i : ℕ). take i (drop at (a .sheet .now))) n ∙ whole (c .before .before .before) .part,
+      (refl, ap (λ (i : ℕ). i + a .sheet .ptr .1) (found (c .before .before .before))),
+    )
 
 pub aw-record-spec : {M : Type 1} → statement M
 aw-record-spec =

@@ -17,7 +17,10 @@ marked c = sym (c .before .before .mark-check .ensures) ∙ ap checked (c .enum-
 
 -- the numbers are those that stand there
 ranged : (c : tie.After-in-range) → inRange (countsAt (c .before .before .before .before .before .before .before .before .before .before .before .before .before .before .before .args .bytes .now)) ≡ c .in-range .result
-ranged c = sym (rw (c .before .wide4 .ensures, c .before .before .before .wide3 .ensures, c .before .before .before .before .before .wide2 .ensures, c .before .before .before .before .before .before .before .wide .ensures) at (c .in-range .ensures))
+ranged c =
+    let c5 = c .before .before .before .before .before in
+    let c7 = c5 .before .before in
+    sym (rw (c .before .wide4 .ensures, c .before .before .before .wide3 .ensures, c5 .wide2 .ensures, c7 .wide .ensures) at (c .in-range .ensures))
 
 mark-check-requires : tie.Need-mark-check-requires
 mark-check-requires c κs = search needs
@@ -26,7 +29,9 @@ enum-known-c : tie.Need-enum-known-c
 enum-known-c c = search needs
 
 returns : tie.Need-returns
-returns c = sym (header-refused (c .before .before .before .before .before .before .args .bytes .now) _ (sym (c .before .before .before .mark-check .ensures) ∙ ap checked (c .before .c .given .1)))
+returns c =
+    let c6 = c .before .before .before .before .before .before in
+    sym (header-refused (c6 .args .bytes .now) _ (sym (c .before .before .before .mark-check .ensures) ∙ ap checked (c .before .c .given .1)))
 
 enum-told : tie.Need-enum-told
 enum-told c = search needs
@@ -62,10 +67,16 @@ in-range-requires : tie.Need-in-range-requires
 in-range-requires c κs = search needs
 
 returns-3 : tie.Need-returns-3
-returns-3 c = sym (header-judged (c .before .before .before .before .before .before .before .before .before .before .before .before .before .before .before .before .args .bytes .now) (marked (c .before .before .before .before .before .before .before .before .before .before .before)) true (search needs) (ranged (c .before) ∙ c .if2 .taken))
+returns-3 c =
+    let c11 = c .before .before .before .before .before .before .before .before .before .before .before in
+    let c16 = c11 .before .before .before .before .before in
+    sym (header-judged (c16 .args .bytes .now) (marked c11) true (search needs) (ranged (c .before) ∙ c .if2 .taken))
 
 returns-4 : tie.Need-returns-4
-returns-4 c = sym (header-judged (c .before .before .before .before .before .before .before .before .before .before .before .before .before .before .before .before .args .bytes .now) (marked (c .before .before .before .before .before .before .before .before .before .before .before)) false (search needs) (ranged (c .before) ∙ c .if2 .left))
+returns-4 c =
+    let c11 = c .before .before .before .before .before .before .before .before .before .before .before in
+    let c16 = c11 .before .before .before .before .before in
+    sym (header-judged (c16 .args .bytes .now) (marked c11) false (search needs) (ranged (c .before) ∙ c .if2 .left))
 
 pub header-check-spec : {M : Type 1} → statement M
 header-check-spec =

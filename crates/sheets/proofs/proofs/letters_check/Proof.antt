@@ -20,7 +20,10 @@ sub-if3 : tie.Need-sub-if3
 sub-if3 c = search needs
 
 returns-3 : tie.Need-returns-3
-returns-3 c = let a = c .before .before .before .before .args in sym (letters-absent (a .bytes .now) (a .at) (c .before .before .before .before .pre) (a .low) (a .high) (a .k) (a .size) (search needs) (search needs) (omega arith))
+returns-3 c =
+    let a = c .before .before .before .before .args in
+    sym (letters-absent (a .bytes .now) (a .at) (c .before .before .before .before .pre) (a .low) (a .high) (a .k) (a .size) (search needs)
+    (search needs) (omega arith))
 
 add-end : tie.Need-add-end
 add-end c = search needs
@@ -38,10 +41,18 @@ letters-below-requires : tie.Need-letters-below-requires
 letters-below-requires c κs = search needs
 
 returns-4 : tie.Need-returns-4
-returns-4 c = let a = c .before .before .before .before .before .before .before .args in sym (letters-judged (a .bytes .now) (a .at) (c .before .before .before .before .before .before .before .pre) (a .low) (a .high) (a .k) (a .size) true (search needs) (search needs) (omega arith) (sym (c .before .letters-below .ensures) ∙ c .if4 .taken))
+returns-4 c =
+    let c7 = c .before .before .before .before .before .before .before in
+    let a = c7 .args in
+    sym (letters-judged (a .bytes .now) (a .at) (c7 .pre) (a .low) (a .high) (a .k) (a .size) true (search needs) (search needs) (omega arith)
+    (sym (c .before .letters-below .ensures) ∙ c .if4 .taken))
 
 returns-5 : tie.Need-returns-5
-returns-5 c = let a = c .before .before .before .before .before .before .before .args in sym (letters-judged (a .bytes .now) (a .at) (c .before .before .before .before .before .before .before .pre) (a .low) (a .high) (a .k) (a .size) false (search needs) (search needs) (omega arith) (sym (c .before .letters-below .ensures) ∙ c .if4 .left))
+returns-5 c =
+    let c7 = c .before .before .before .before .before .before .before in
+    let a = c7 .args in
+    sym (letters-judged (a .bytes .now) (a .at) (c7 .pre) (a .low) (a .high) (a .k) (a .size) false (search needs) (search needs) (omega arith)
+    (sym (c .before .letters-below .ensures) ∙ c .if4 .left))
 
 pub letters-check-spec : {M : Type 1} → statement M
 letters-check-spec =

@@ -25,7 +25,12 @@ map-byte-requires : tie.Need-map-byte-requires Inv-loop μ-loop
 map-byte-requires c κs = search needs
 
 returns : tie.Need-returns Inv-loop μ-loop
-returns c = let a = c .before .before .before .before .before .before .args in let l = c .before .before .before .before .loop in sym (l .inv .1 ∙ all-fails (mapByte (a .m)) (a .map .now) (l .i) (search needs) (sym (c .before .map-byte .ensures) ∙ not-true (c .before .map-byte .result) (c .if1 .taken)))
+returns c =
+    let c6 = c .before .before .before .before .before .before in
+    let a = c6 .args in
+    let l = c .before .before .before .before .loop in
+    sym (l .inv .1 ∙ all-fails (mapByte (a .m)) (a .map .now) (l .i) (search needs)
+    (sym (c .before .map-byte .ensures) ∙ not-true (c .before .map-byte .result) (c .if1 .taken)))
 
 add-i : tie.Need-add-i Inv-loop μ-loop
 add-i c = search needs
@@ -34,10 +39,20 @@ loop-less : tie.Need-loop-less Inv-loop μ-loop
 loop-less c = search needs
 
 loop-again : tie.Need-loop-again Inv-loop μ-loop
-loop-again c = let a = c .before .before .before .before .before .before .args in let l = c .before .before .before .before .loop in (search needs, l .inv .1 ∙ all-passes (mapByte (a .m)) (a .map .now) (l .i) (search needs) (sym (c .before .map-byte .ensures) ∙ not-false (c .before .map-byte .result) (c .if1 .left)))
+loop-again c =
+    let c6 = c .before .before .before .before .before .before in
+    let a = c6 .args in
+    let l = c .before .before .before .before .loop in (
+      search needs,
+      l .inv .1 ∙ all-passes (mapByte (a .m)) (a .map .now) (l .i) (search needs)
+          (sym (c .before .map-byte .ensures) ∙ not-false (c .before .map-byte .result) (c .if1 .left)),
+    )
 
 returns-2 : tie.Need-returns-2 Inv-loop μ-loop
-returns-2 c = let a = c .before .before .before .args in let l = c .before .loop in sym (l .inv .1 ∙ all-ends (mapByte (a .m)) (a .map .now) (l .i) (search needs))
+returns-2 c =
+    let a = c .before .before .before .args in
+    let l = c .before .loop in
+    sym (l .inv .1 ∙ all-ends (mapByte (a .m)) (a .map .now) (l .i) (search needs))
 
 pub map-bytes-spec : {M : Type 1} → statement M
 map-bytes-spec =

@@ -19,7 +19,9 @@ marked c = sym (c .before .before .mark-check .ensures) ∙ ap checked (c .enum-
 
 -- and took its bytes
 within : (c : tie.After-enum-told) → c .before .before .before .before .before .args .at + 2 ≤ length (c .before .before .before .before .before .args .bytes .now)
-within c = mark-took (c .before .before .before .before .before .args .bytes .now) (c .before .before .before .before .before .args .at) (c .before .before .before .before .before .pre) SM (marked c) .within
+within c =
+    let c5 = c .before .before .before .before .before in
+    mark-took (c5 .args .bytes .now) (c5 .args .at) (c5 .pre) SM (marked c) .within
 
 mark-check-requires : tie.Need-mark-check-requires
 mark-check-requires c κs = search needs
@@ -28,7 +30,11 @@ enum-known-c : tie.Need-enum-known-c
 enum-known-c c = search needs
 
 returns : tie.Need-returns
-returns c = let a = c .before .before .before .before .before .before .args in sym (map-refused (a .bytes .now) (a .at) (c .before .before .before .before .before .before .pre) (a .m) (a .n) _ (sym (c .before .before .before .mark-check .ensures) ∙ ap checked (c .before .c .given .1)))
+returns c =
+    let c6 = c .before .before .before .before .before .before in
+    let a = c6 .args in
+    sym (map-refused (a .bytes .now) (a .at) (c6 .pre) (a .m) (a .n) _
+    (sym (c .before .before .before .mark-check .ensures) ∙ ap checked (c .before .c .given .1)))
 
 enum-told : tie.Need-enum-told
 enum-told c = search needs
@@ -40,7 +46,11 @@ sub-if1 : tie.Need-sub-if1
 sub-if1 c = let w = within c in search needs
 
 returns-2 : tie.Need-returns-2
-returns-2 c = let a = c .before .before .before .before .before .before .args in let w = within (c .before) in sym (map-short (a .bytes .now) (a .at) (c .before .before .before .before .before .before .pre) (a .m) (a .n) (marked (c .before)) (omega arith))
+returns-2 c =
+    let c6 = c .before .before .before .before .before .before in
+    let a = c6 .args in
+    let w = within (c .before) in
+    sym (map-short (a .bytes .now) (a .at) (c6 .pre) (a .m) (a .n) (marked (c .before)) (omega arith))
 
 add-end : tie.Need-add-end
 add-end c = search needs
@@ -58,10 +68,20 @@ map-bytes-requires : tie.Need-map-bytes-requires
 map-bytes-requires c κs = search needs
 
 returns-3 : tie.Need-returns-3
-returns-3 c = let a = c .before .before .before .before .before .before .before .before .before .args in let w = within (c .before .before .before .before) in sym (map-judged (a .bytes .now) (a .at) (c .before .before .before .before .before .before .before .before .before .pre) (a .m) (a .n) true (marked (c .before .before .before .before)) (omega arith) (sym (c .before .map-bytes .ensures) ∙ c .if2 .taken))
+returns-3 c =
+    let c9 = c .before .before .before .before .before .before .before .before .before in
+    let a = c9 .args in
+    let w = within (c .before .before .before .before) in
+    sym (map-judged (a .bytes .now) (a .at) (c9 .pre) (a .m) (a .n) true (marked (c .before .before .before .before)) (omega arith)
+    (sym (c .before .map-bytes .ensures) ∙ c .if2 .taken))
 
 returns-4 : tie.Need-returns-4
-returns-4 c = let a = c .before .before .before .before .before .before .before .before .before .args in let w = within (c .before .before .before .before) in sym (map-judged (a .bytes .now) (a .at) (c .before .before .before .before .before .before .before .before .before .pre) (a .m) (a .n) false (marked (c .before .before .before .before)) (omega arith) (sym (c .before .map-bytes .ensures) ∙ c .if2 .left))
+returns-4 c =
+    let c9 = c .before .before .before .before .before .before .before .before .before in
+    let a = c9 .args in
+    let w = within (c .before .before .before .before) in
+    sym (map-judged (a .bytes .now) (a .at) (c9 .pre) (a .m) (a .n) false (marked (c .before .before .before .before)) (omega arith)
+    (sym (c .before .map-bytes .ensures) ∙ c .if2 .left))
 
 pub map-check-spec : {M : Type 1} → statement M
 map-check-spec =

@@ -11,11 +11,15 @@ use Rattle.sheets.proofs.proofs.read.Tie as tie
 
 -- the header came out good
 headed : (c : tie.After-enum-told) → Headed (c .before .before .before .before .args .bytes .now)
-headed c = header-good (c .before .before .before .before .args .bytes .now) (sym (c .before .before .header-check .ensures) ∙ ap checked (c .enum-told .given .1))
+headed c =
+    header-good (c .before .before .before .before .args .bytes .now)
+    (sym (c .before .before .header-check .ensures) ∙ ap checked (c .enum-told .given .1))
 
 -- the numbers are those that stand there
 as-they-stand : (c : tie.After-wide4) → counts (c .before .before .before .before .before .before .wide .result) (c .before .before .before .before .wide2 .result) (c .before .before .wide3 .result) (c .wide4 .result) ≡ countsAt (c .before .before .before .before .before .before .before .before .before .before .before .before .args .bytes .now)
-as-they-stand c = rw (c .wide4 .ensures, c .before .before .wide3 .ensures, c .before .before .before .before .wide2 .ensures, c .before .before .before .before .before .before .wide .ensures) refl
+as-they-stand c =
+    let c6 = c .before .before .before .before .before .before in
+    rw (c .wide4 .ensures, c .before .before .wide3 .ensures, c .before .before .before .before .wide2 .ensures, c6 .wide .ensures) refl
 
 header-check-requires : tie.Need-header-check-requires
 header-check-requires c κs = search needs
@@ -24,7 +28,9 @@ enum-known-head : tie.Need-enum-known-head
 enum-known-head c = search needs
 
 returns : tie.Need-returns
-returns c = sym (read-header (c .before .before .before .before .before .args .bytes .now) _ (sym (c .before .before .before .header-check .ensures) ∙ ap checked (c .before .head .given .1)))
+returns c =
+    let c5 = c .before .before .before .before .before in
+    sym (read-header (c5 .args .bytes .now) _ (sym (c .before .before .before .header-check .ensures) ∙ ap checked (c .before .head .given .1)))
 
 enum-told : tie.Need-enum-told
 enum-told c = search needs
@@ -54,19 +60,31 @@ wide-requires-4 : tie.Need-wide-requires-4
 wide-requires-4 c κs = search needs
 
 body-check-requires : tie.Need-body-check-requires
-body-check-requires c κs = let h = headed (c .before .before .before .before .before .before .before .before) in (h .within, omega (arith, c .before .before .before .before .wide2 .ensures, h .ranges .k-high))
+body-check-requires c κs =
+    let c8 = c .before .before .before .before .before .before .before .before in
+    let h = headed c8 in
+    (h .within, omega (arith, c .before .before .before .before .wide2 .ensures, h .ranges .k-high))
 
 enum-known-rest : tie.Need-enum-known-rest
 enum-known-rest c = search needs
 
 returns-2 : tie.Need-returns-2
-returns-2 c = sym (read-body (c .before .before .before .before .before .before .before .before .before .before .before .before .before .before .before .before .args .bytes .now) (headed (c .before .before .before .before .before .before .before .before .before .before .before .before)) _ (rw (as-they-stand (c .before .before .before .before)) at (sym (c .before .before .before .body-check .ensures) ∙ ap stepped (c .before .rest .given .1))))
+returns-2 c =
+    let c12 = c .before .before .before .before .before .before .before .before .before .before .before .before in
+    let c16 = c12 .before .before .before .before in
+    sym (read-body (c16 .args .bytes .now) (headed c12) _ (rw (as-they-stand (c .before .before .before .before)) at
+    (sym (c .before .before .before .body-check .ensures) ∙ ap stepped (c .before .rest .given .1))))
 
 enum-told-2 : tie.Need-enum-told-2
 enum-told-2 c = search needs
 
 returns-3 : tie.Need-returns-3
-returns-3 c = let e = as-they-stand (c .before .before .before) in ap gives e ∙ sym (read-counts (c .before .before .before .before .before .before .before .before .before .before .before .before .before .before .before .args .bytes .now) (headed (c .before .before .before .before .before .before .before .before .before .before .before)) _ (rw e at (sym (c .before .before .body-check .ensures) ∙ ap stepped (c .enum-told2 .given .1))))
+returns-3 c =
+    let c11 = c .before .before .before .before .before .before .before .before .before .before .before in
+    let c15 = c11 .before .before .before .before in
+    let e = as-they-stand (c .before .before .before) in
+    ap gives e ∙ sym (read-counts (c15 .args .bytes .now) (headed c11) _
+    (rw e at (sym (c .before .before .body-check .ensures) ∙ ap stepped (c .enum-told2 .given .1))))
 
 pub read-spec : {M : Type 1} → statement M
 read-spec =

@@ -16,7 +16,10 @@ abbrev μ-loop : tie.MeasureT-loop
 
 -- the record of this turn lies within the sheet
 within : (c : tie.In-loop Inv-loop μ-loop) → let a = c .before .before .before .args in let l = c .before .loop in l .place + (3 + getD (a .bytes .now) (l .place + 2) 0) ≤ length (a .bytes .now)
-within c = let a = c .before .before .before .args in let l = c .before .loop in place-within (a .bytes .now) (l .place) (l .left) (length (a .bytes .now)) (c .loop-test .taken) (rw (l .inv) at (c .before .before .before .pre))
+within c =
+    let a = c .before .before .before .args in
+    let l = c .before .loop in
+    place-within (a .bytes .now) (l .place) (l .left) (length (a .bytes .now)) (c .loop-test .taken) (rw (l .inv) at (c .before .before .before .pre))
 
 loop-holds : tie.Need-loop-holds Inv-loop μ-loop
 loop-holds c = refl
@@ -43,10 +46,18 @@ loop-less : tie.Need-loop-less Inv-loop μ-loop
 loop-less c = search needs
 
 loop-again : tie.Need-loop-again Inv-loop μ-loop
-loop-again c = let a = c .before .before .before .before .before .args in let l = c .before .before .before .loop in rw (c .wide .ensures) (l .inv ∙ place-next (a .bytes .now) (l .place) (l .left) (search needs))
+loop-again c =
+    let c5 = c .before .before .before .before .before in
+    let a = c5 .args in
+    let l = c .before .before .before .loop in
+    rw (c .wide .ensures) (l .inv ∙ place-next (a .bytes .now) (l .place) (l .left) (search needs))
 
 returns : tie.Need-returns Inv-loop μ-loop
-returns c = let a = c .before .before .before .args in let l = c .before .loop in let z : l .left ≡ 0 = omega arith in sym ((rw z at (l .inv)) ∙ place-end (a .bytes .now) (l .place))
+returns c =
+    let a = c .before .before .before .args in
+    let l = c .before .loop in
+    let z : l .left ≡ 0 = omega arith in
+    sym ((rw z at (l .inv)) ∙ place-end (a .bytes .now) (l .place))
 
 pub record-place-spec : {M : Type 1} → statement M
 record-place-spec =

@@ -23,7 +23,11 @@ enum-known-c : tie.Need-enum-known-c
 enum-known-c c = search needs
 
 returns : tie.Need-returns
-returns c = let a = c .before .before .before .before .before .args in sym (word-refused (a .bytes .now) (a .at) (c .before .before .before .before .before .pre) _ (a .low) (a .high) (a .k) _ (sym (c .before .before .before .mark-check .ensures) ∙ ap checked (c .before .c .given .1)))
+returns c =
+    let c5 = c .before .before .before .before .before in
+    let a = c5 .args in
+    sym (word-refused (a .bytes .now) (a .at) (c5 .pre) _ (a .low) (a .high) (a .k) _
+    (sym (c .before .before .before .mark-check .ensures) ∙ ap checked (c .before .c .given .1)))
 
 enum-told : tie.Need-enum-told
 enum-told c = search needs
@@ -32,7 +36,10 @@ add-place : tie.Need-add-place
 add-place c = search needs
 
 returns-2 : tie.Need-returns-2
-returns-2 c = let a = c .before .before .before .before .before .args in sym (word-short (a .bytes .now) (a .at) (c .before .before .before .before .before .pre) _ (a .low) (a .high) (a .k) (marked (c .before)) (omega arith))
+returns-2 c =
+    let c5 = c .before .before .before .before .before in
+    let a = c5 .args in
+    sym (word-short (a .bytes .now) (a .at) (c5 .pre) _ (a .low) (a .high) (a .k) (marked (c .before)) (omega arith))
 
 add-letters-check : tie.Need-add-letters-check
 add-letters-check c = search needs
@@ -47,7 +54,11 @@ letters-check-requires : tie.Need-letters-check-requires
 letters-check-requires c κs = search needs
 
 returns-3 : tie.Need-returns-3
-returns-3 c = let a = c .before .before .before .before .before .before .before .before .args in (rw (c .before .wide .ensures) at (c .letters-check .ensures)) ∙ sym (ap (after (a .bytes .now)) (word-opens (a .bytes .now) (a .at) (c .before .before .before .before .before .before .before .before .pre) _ (a .low) (a .high) (a .k) (marked (c .before .before .before .before)) (omega arith)))
+returns-3 c =
+    let c8 = c .before .before .before .before .before .before .before .before in
+    let a = c8 .args in
+    (rw (c .before .wide .ensures) at (c .letters-check .ensures)) ∙ sym (ap (after (a .bytes .now))
+    (word-opens (a .bytes .now) (a .at) (c8 .pre) _ (a .low) (a .high) (a .k) (marked (c .before .before .before .before)) (omega arith)))
 
 pub word-check-spec : {M : Type 1} → statement M
 word-check-spec =

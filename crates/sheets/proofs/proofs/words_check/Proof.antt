@@ -30,7 +30,12 @@ enum-told : tie.Need-enum-told Inv-loop μ-loop
 enum-told c = search needs
 
 returns : tie.Need-returns Inv-loop μ-loop
-returns c = let a = c .before .before .before .before .before .before .args in let l = c .before .before .before .before .loop in ap stepped (c .enum-told .given .1) ∙ sym (l .inv .1 ∙ words-refused (a .bytes .now) (l .place) (l .inv .0) _ (a .low) (a .high) (a .k) (l .left) _ (search needs) (sym (c .before .before .word-check .ensures) ∙ ap stepped (c .enum-told .given .1)))
+returns c =
+    let c6 = c .before .before .before .before .before .before in
+    let a = c6 .args in
+    let l = c .before .before .before .before .loop in
+    ap stepped (c .enum-told .given .1) ∙ sym (l .inv .1 ∙ words-refused (a .bytes .now) (l .place) (l .inv .0) _ (a .low) (a .high) (a .k) (l .left)
+    _ (search needs) (sym (c .before .before .word-check .ensures) ∙ ap stepped (c .enum-told .given .1)))
 
 sub-left : tie.Need-sub-left Inv-loop μ-loop
 sub-left c = search needs
@@ -39,11 +44,23 @@ loop-less : tie.Need-loop-less Inv-loop μ-loop
 loop-less c = search needs
 
 loop-again : tie.Need-loop-again Inv-loop μ-loop
-loop-again c = let a = c .before .before .before .before .before .before .before .args in let l = c .before .before .before .before .before .loop in let e = sym (c .before .before .before .word-check .ensures) ∙ ap stepped (c .before .s .given .1) in
-    (word-went (a .bytes .now) (l .place) (l .inv .0) _ (a .low) (a .high) (a .k) _ e .within, l .inv .1 ∙ words-passed (a .bytes .now) (l .place) (l .inv .0) _ (a .low) (a .high) (a .k) (l .left) _ (search needs) e)
+loop-again c =
+    let c5 = c .before .before .before .before .before in
+    let c7 = c5 .before .before in
+    let a = c7 .args in
+    let l = c5 .loop in
+    let e = sym (c .before .before .before .word-check .ensures) ∙ ap stepped (c .before .s .given .1) in (
+      word-went (a .bytes .now) (l .place) (l .inv .0) _ (a .low) (a .high) (a .k) _ e .within,
+      l .inv .1 ∙ words-passed (a .bytes .now) (l .place)
+          (l .inv .0) _ (a .low) (a .high) (a .k) (l .left) _ (search needs) e,
+    )
 
 returns-2 : tie.Need-returns-2 Inv-loop μ-loop
-returns-2 c = let a = c .before .before .before .args in let l = c .before .loop in let z : l .left ≡ 0 = omega arith in sym ((rw z at (l .inv .1)) ∙ words-end (a .bytes .now) (l .place) (l .inv .0) _ (a .low) (a .high) (a .k))
+returns-2 c =
+    let a = c .before .before .before .args in
+    let l = c .before .loop in
+    let z : l .left ≡ 0 = omega arith in
+    sym ((rw z at (l .inv .1)) ∙ words-end (a .bytes .now) (l .place) (l .inv .0) _ (a .low) (a .high) (a .k))
 
 pub words-check-spec : {M : Type 1} → statement M
 words-check-spec =

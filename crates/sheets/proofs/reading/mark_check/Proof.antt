@@ -21,7 +21,9 @@ element-copy-out-if2 : tie.Need-element-copy-out-if2
 element-copy-out-if2 c = search needs
 
 returns-2 : tie.Need-returns-2
-returns-2 c = let a = c .before .before .before .before .args in rw (mark-two (getD (a .due .now) 0 0) (getD (a .due .now) 1 0) (a .bytes .now) (a .at) (omega arith), ne-eqb _ _ (c .if2 .taken))
+returns-2 c =
+    let a = c .before .before .before .before .args in
+    rw (mark-two (getD (a .due .now) 0 0) (getD (a .due .now) 1 0) (a .bytes .now) (a .at) (omega arith), ne-eqb _ _ (c .if2 .taken))
 
 add-if3 : tie.Need-add-if3
 add-if3 c = search needs
@@ -33,10 +35,26 @@ element-copy-out-if3 : tie.Need-element-copy-out-if3
 element-copy-out-if3 c = search needs
 
 returns-3 : tie.Need-returns-3
-returns-3 c = let a = c .before .before .before .before .before .before .before .args in rw (mark-two (getD (a .due .now) 0 0) (getD (a .due .now) 1 0) (a .bytes .now) (a .at) (omega arith), eq-eqb _ _ (c .before .before .before .if2 .left), ne-eqb _ _ (c .if3 .taken))
+returns-3 c =
+    let c7 = c .before .before .before .before .before .before .before in
+    let a = c7 .args in
+    rw (
+      mark-two (getD (a .due .now) 0 0) (getD (a .due .now) 1 0) (a .bytes .now) (a .at) (omega arith),
+      eq-eqb _ _
+          (c .before .before .before .if2 .left),
+      ne-eqb _ _ (c .if3 .taken),
+    )
 
 returns-4 : tie.Need-returns-4
-returns-4 c = let a = c .before .before .before .before .before .before .before .args in rw (mark-two (getD (a .due .now) 0 0) (getD (a .due .now) 1 0) (a .bytes .now) (a .at) (omega arith), eq-eqb _ _ (c .before .before .before .if2 .left), eq-eqb _ _ (c .if3 .left))
+returns-4 c =
+    let c7 = c .before .before .before .before .before .before .before in
+    let a = c7 .args in
+    rw (
+      mark-two (getD (a .due .now) 0 0) (getD (a .due .now) 1 0) (a .bytes .now) (a .at) (omega arith),
+      eq-eqb _ _
+          (c .before .before .before .if2 .left),
+      eq-eqb _ _ (c .if3 .left),
+    )
 
 pub mark-check-spec : {M : Type 1} → statement M
 mark-check-spec =

@@ -27,7 +27,12 @@ wide-requires : tie.Need-wide-requires Inv-loop μ-loop
 wide-requires c κs = search needs
 
 returns : tie.Need-returns Inv-loop μ-loop
-returns c = let a = c .before .before .before .before .before .before .args in let l = c .before .before .before .before .loop in sym (l .inv .1 ∙ pairs-refused (a .bytes .now) (l .place) (omega arith) (a .n) (l .left) (search needs) (rw (c .before .wide .ensures) at (c .if1 .taken)))
+returns c =
+    let c6 = c .before .before .before .before .before .before in
+    let a = c6 .args in
+    let l = c .before .before .before .before .loop in
+    sym (l .inv .1 ∙ pairs-refused (a .bytes .now) (l .place) (omega arith) (a .n) (l .left) (search needs)
+    (rw (c .before .wide .ensures) at (c .if1 .taken)))
 
 add-place : tie.Need-add-place Inv-loop μ-loop
 add-place c = search needs
@@ -39,10 +44,21 @@ loop-less : tie.Need-loop-less Inv-loop μ-loop
 loop-less c = search needs
 
 loop-again : tie.Need-loop-again Inv-loop μ-loop
-loop-again c = let a = c .before .before .before .before .before .before .args in let l = c .before .before .before .before .loop in (search needs, l .inv .1 ∙ pairs-passed (a .bytes .now) (l .place) (omega arith) (a .n) (l .left) (search needs) (rw (c .before .wide .ensures) at (c .if1 .left)))
+loop-again c =
+    let c6 = c .before .before .before .before .before .before in
+    let a = c6 .args in
+    let l = c .before .before .before .before .loop in (
+      search needs,
+      l .inv .1 ∙ pairs-passed (a .bytes .now) (l .place) (omega arith) (a .n) (l .left) (search needs)
+          (rw (c .before .wide .ensures) at (c .if1 .left)),
+    )
 
 returns-2 : tie.Need-returns-2 Inv-loop μ-loop
-returns-2 c = let a = c .before .before .before .args in let l = c .before .loop in let z : l .left ≡ 0 = omega arith in sym ((rw z at (l .inv .1)) ∙ pairs-end (a .n) (drop (l .place) (a .bytes .now)))
+returns-2 c =
+    let a = c .before .before .before .args in
+    let l = c .before .loop in
+    let z : l .left ≡ 0 = omega arith in
+    sym ((rw z at (l .inv .1)) ∙ pairs-end (a .n) (drop (l .place) (a .bytes .now)))
 
 pub pairs-check-spec : {M : Type 1} → statement M
 pairs-check-spec =

@@ -22,7 +22,11 @@ passed c = sym (c .before .before .row-check .ensures) ∙ ap checked (c .enum-t
 
 -- and took its bytes
 within : (c : tie.After-enum-told Inv-loop μ-loop) → let a = c .before .before .before .before .before .before .args in c .before .before .before .before .loop .place + (2 + 2 * a .k) ≤ length (a .bytes .now)
-within c = let a = c .before .before .before .before .before .before .args in let l = c .before .before .before .before .loop in row-took (a .bytes .now) (l .place) (l .inv .0) (a .n) (a .k) (passed c) .within
+within c =
+    let c6 = c .before .before .before .before .before .before in
+    let a = c6 .args in
+    let l = c .before .before .before .before .loop in
+    row-took (a .bytes .now) (l .place) (l .inv .0) (a .n) (a .k) (passed c) .within
 
 loop-holds : tie.Need-loop-holds Inv-loop μ-loop
 loop-holds c = (search needs, refl)
@@ -34,7 +38,13 @@ enum-known-c : tie.Need-enum-known-c Inv-loop μ-loop
 enum-known-c c = search needs
 
 returns : tie.Need-returns Inv-loop μ-loop
-returns c = let a = c .before .before .before .before .before .before .before .args in let l = c .before .before .before .before .before .loop in sym (l .inv .1 ∙ rows-refused (a .bytes .now) (l .place) (l .inv .0) (a .n) (a .k) (l .left) _ (search needs) (sym (c .before .before .before .row-check .ensures) ∙ ap checked (c .before .c .given .1)))
+returns c =
+    let c5 = c .before .before .before .before .before in
+    let c7 = c5 .before .before in
+    let a = c7 .args in
+    let l = c5 .loop in
+    sym (l .inv .1 ∙ rows-refused (a .bytes .now) (l .place) (l .inv .0) (a .n) (a .k) (l .left) _ (search needs)
+    (sym (c .before .before .before .row-check .ensures) ∙ ap checked (c .before .c .given .1)))
 
 enum-told : tie.Need-enum-told Inv-loop μ-loop
 enum-told c = search needs
@@ -55,10 +65,18 @@ loop-less : tie.Need-loop-less Inv-loop μ-loop
 loop-less c = search needs
 
 loop-again : tie.Need-loop-again Inv-loop μ-loop
-loop-again c = let a = c .before .before .before .before .before .before .args in let l = c .before .before .before .before .loop in (within c, l .inv .1 ∙ rows-passed (a .bytes .now) (l .place) (l .inv .0) (a .n) (a .k) (l .left) (search needs) (passed c))
+loop-again c =
+    let c6 = c .before .before .before .before .before .before in
+    let a = c6 .args in
+    let l = c .before .before .before .before .loop in
+    (within c, l .inv .1 ∙ rows-passed (a .bytes .now) (l .place) (l .inv .0) (a .n) (a .k) (l .left) (search needs) (passed c))
 
 returns-2 : tie.Need-returns-2 Inv-loop μ-loop
-returns-2 c = let a = c .before .before .before .args in let l = c .before .loop in let z : l .left ≡ 0 = omega arith in sym ((rw z at (l .inv .1)) ∙ rows-end (a .n) (a .k) (drop (l .place) (a .bytes .now)))
+returns-2 c =
+    let a = c .before .before .before .args in
+    let l = c .before .loop in
+    let z : l .left ≡ 0 = omega arith in
+    sym ((rw z at (l .inv .1)) ∙ rows-end (a .n) (a .k) (drop (l .place) (a .bytes .now)))
 
 pub rows-check-spec : {M : Type 1} → statement M
 rows-check-spec =
