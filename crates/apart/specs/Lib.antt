@@ -1,0 +1,3 @@
+pub mod Apart
+pub mod Answers
+pub mod ApartLaws
