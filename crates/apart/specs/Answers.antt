@@ -15,7 +15,7 @@ whyOf (why.Told length first second) = gives (some (record { length = length; fi
 whyOf (why.Refused r) = refused (number r)
 
 -- what is told, where something is
-abbrev toldIn : Answer (Option Told) → Told
+abbrev pub toldIn : Answer (Option Told) → Told
 toldIn (refused x) = record { length = 0; first = 0; second = 0 }
 toldIn (gives none) = record { length = 0; first = 0; second = 0 }
 toldIn (gives (some x)) = x

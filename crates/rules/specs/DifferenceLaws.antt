@@ -236,7 +236,8 @@ module _ (k : ℕ) (pos : 0 < k) (M N : Machine) (whole : Complete k M) (whole�
         least-short k (M .states + N .states) M N s t (shorter k M N whole whole′ s t hs ht (f .front) (f .last) (f .letters) (f .low) (f .differ)) w (f .least)
 
 -- of two states of one machine, fewer than it has states
-pub found-alone : (k : ℕ) → 0 < k → (M : Machine) → Complete k M → (s t : ℕ) → s < M .states → t < M .states → (w : Word) → difference M M k s t ≡ some w → length w < M .states
+pub found-alone : (k : ℕ) → 0 < k → (M : Machine) → Complete k M → (s t : ℕ) → s < M .states → t < M .states
+    → (w : Word) → difference M M k s t ≡ some w → length w < M .states
 found-alone k pos M whole s t hs ht w e =
     let f = found k pos M M whole whole s t hs ht w e in
     least-short k (M .states) M M s t (shorter-alone k M whole s t hs ht (f .front) (f .last) (f .letters) (f .low) (f .differ)) w (f .least)
