@@ -1,5 +1,5 @@
 -- WHAT THE ANSWERS MEAN: theorems about `apart`.
-use mathlib.Core.Path.{_≡_, refl, sym, ap, _∙_}
+use mathlib.Core.Path.{_≡_, refl, sym, ap, _∙_, subst}
 use mathlib.Core.Logic.{_≢_, _↔_}
 use mathlib.Core.Option.{Option, none, some}
 use mathlib.Core.List.{List, List-discrete}
@@ -134,3 +134,21 @@ module _ (n k : ℕ) (words : List ℕ) (s t : ℕ) (area : List ℕ) (door : as
     λ is. one-of-alike pos m s t (low .0) (low .1) (none-when .0 is),
     λ e. none-when .1 (λ w b. ap (λ (x : ℕ). answerFrom M x w) e),
   )
+
+-- A word that is told has at most 47 letters.
+abbrev pub Short : Answer (Option Told) → Type 0
+Short (refused x) = Unit {0}
+Short (gives none) = Unit {0}
+Short (gives (some x)) = x .length ≤ 47
+
+pub always-short : (n k : ℕ) (words : List ℕ) (s t : ℕ) (area : List ℕ) → Short (apart n k words s t area .answer)
+always-short n k words s t area = go (asked n k words s t area) refl
+  where
+    door : asked n k words s t area ≡ gives tt → (a : Answer (Option Told)) → apart n k words s t area .answer ≡ a → Short a
+    door e (refused x) q = tt
+    door e (gives none) q = tt
+    door e (gives (some x)) q = let T = told n k words s t area e x q in omega (arith, T .many, T .short)
+
+    go : (a : Answer (Unit {0})) → asked n k words s t area ≡ a → Short (apart n k words s t area .answer)
+    go (refused x) e = subst Short (sym (ap (λ (l : Left). l .answer) (refused-leaves n k words s t area x e))) tt
+    go (gives u) e = door e (apart n k words s t area .answer) refl
