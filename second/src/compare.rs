@@ -9,6 +9,7 @@ mod lent;
 mod limits;
 mod reading;
 pub mod soak;
+mod states;
 
 use case::{Case, Operation, Outcome};
 use family::{Family, Plan};
@@ -208,7 +209,7 @@ mod tests {
 
     #[test]
     fn the_fixed_cases_alone_meet_every_answer() {
-        for family in [Family::Learner, Family::Checker] {
+        for family in [Family::Learner, Family::Checker, Family::States] {
             let mut compared = compared_with_itself(&plan(&[family], 0), None);
             compared.require_every_outcome(&[family]);
             assert!(compared.is_right(), "{:?}", compared.wrong);

@@ -1,6 +1,7 @@
 //! A second, independent learner of complete, deterministic Mealy machines, with its sheets and checker.
 //! Written from the paper alone, for clarity, to be compared with another program input by input.
 
+pub mod apart;
 pub mod cases;
 pub mod checker;
 pub mod compare;

@@ -21,9 +21,11 @@
 //     6 learns            n, k,     bytes, up to       words, up to 600     states, rounds, cells, bytes written
 //                         L, R      36000 and 10000
 //     7 checks            n, k      -                  words, and a sheet   -
+//     8 why apart         n, k,     bytes, up to 100   words, up to 600     the word's length, both last outputs
+//                         s, t
 //
 // An answer is
-//     its kind          1 byte: 0 refused, 1 answered; from the learner 1 for Done and 2 for Open
+//     its kind          1 byte: 0 refused, 1 answered; from the learner 1 for Done and 2 for Open; 2 where no word tells two states apart
 //     its numbers       4 numbers: the refusal's number alone, or the values; what is not used is 0
 //     the areas         the bytes of each lent area, whole
 //     the part          the bytes of the part handed back, for the AW record alone
@@ -36,6 +38,7 @@ ghost use lib.ListN.{length};
 
 mod areas;
 
+use apart::Why;
 use learning::Learnt;
 use machine::Answered;
 use machine::Checked;
@@ -188,6 +191,40 @@ fn learn(words: &[u16], n: usize, k: usize, head: &[u8; 18]) -> bool {
     )
 }
 
+// Why two states are apart, into an area that is lent as its part of the buffer.
+fn why_into(
+    words: &[u16],
+    n: usize,
+    k: usize,
+    s: usize,
+    t: usize,
+    area: &mut [u8],
+    seed: u8,
+) -> bool {
+    areas::fill(area, 0, seed);
+    let said = match apart::why_apart(words, n, k, s, t, area) {
+        Why::Told {
+            length,
+            first,
+            second,
+        } => say(1, length, machine::wide(first), machine::wide(second), 0),
+        Why::None => say(2, 0, 0, 0, 0),
+        Why::Refused(r) => say_refused(r),
+    };
+    said && io::write_all(1, area)
+}
+
+fn why(words: &[u16], n: usize, k: usize, head: &[u8; 18]) -> bool {
+    let s = areas::number(head[6], head[7]);
+    let t = areas::number(head[8], head[9]);
+    let size = areas::number(head[10], head[11]);
+    if 100 < size {
+        return false;
+    }
+    let mut area = [0u8; 100];
+    why_into(words, n, k, s, t, &mut area[..size], head[1])
+}
+
 // Has a case answered that lends a machine: its words are taken from the first input.
 fn answer_words(head: &[u8; 18], bytes: &[u8], second: &[u8], words: &mut [u16]) -> bool
     requires { ⌜ length (now words) * 2 ≤ length (now bytes) ⌝ }
@@ -200,6 +237,7 @@ fn answer_words(head: &[u8; 18], bytes: &[u8], second: &[u8], words: &mut [u16])
         5 => question(words, n, k, second),
         6 => learn(words, n, k, head),
         7 => check(words, n, k, second),
+        8 => why(words, n, k, head),
         _ => false,
     }
 }

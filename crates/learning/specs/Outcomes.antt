@@ -15,9 +15,9 @@ use Rattle.rules.specs.Rounds.{Stop}
 use Rattle.rules.specs.Links.{stopped}
 use Rattle.rules.specs.Sheets.{proofBytes, wordBytes, CX}
 use Rattle.rules.specs.Areas.{over, zeros}
-use Rattle.rules.specs.Answer.{Answer, refused, gives, within, _>>_}
+use Rattle.rules.specs.Answer.{Answer, refused, gives, within}
 use Rattle.machine.specs.Lent.{link, lentCheck}
-use Rattle.machine.specs.LentLaws.{demanded, last-demanded, within-both}
+use Rattle.machine.specs.LentLaws.{both, demanded, last-demanded, within-both}
 use Rattle.learning.specs.Learner.{Counts, Learnt, done, unfinished, Left, finished, tableSize, sheetSize, tableBytes, learnCheck, counts, stopLeaves, learnLeaves, learn}
 
 -- ---- at the door
@@ -28,11 +28,6 @@ pub record Taken (n k : ℕ) (words : List ℕ) (L R : ℕ) (table sheet : List 
   pub machine : lentCheck n k words ≡ gives tt
   pub table-long : tableSize ≤ length table
   pub sheet-long : sheetSize ≤ length sheet
-
--- one check and then another
-pub both : (a b : Answer (Unit {0})) → _>>_ a b ≡ gives tt → (a ≡ gives tt) × (b ≡ gives tt)
-both (refused x) b e = let z : _≡_ {A = ℕ} 0 1 = cc in absurd (omega arith)
-both (gives u) b e = (refl, e)
 
 pub taken : (n k : ℕ) (words : List ℕ) (L R : ℕ) (table sheet : List ℕ) → learnCheck n k words L R table sheet ≡ gives tt → Taken n k words L R table sheet
 unfolding learnCheck

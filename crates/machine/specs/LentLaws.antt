@@ -57,6 +57,11 @@ below-letters k [] b = refl
 below-letters k (a ∷ w) b = rw (lt-yes a k (b .0)) (below-letters k w (b .1))
 
 -- ---- lent words
+-- one check and then another
+pub both : (a b : Answer (Unit {0})) → _>>_ a b ≡ gives tt → (a ≡ gives tt) × (b ≡ gives tt)
+both (refused x) b e = let z : _≡_ {A = ℕ} 0 1 = cc in absurd (omega arith)
+both (gives u) b e = (refl, e)
+
 -- a demand that is met leaves the rest
 pub demanded : {A : Type 0} (t : Bool) (x : ℕ) (rest : Answer A) (a : A) → _>>_ (demand t x) rest ≡ gives a → (t ≡ true) × (rest ≡ gives a)
 demanded true x rest a e = (refl, e)

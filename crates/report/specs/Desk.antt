@@ -1,5 +1,5 @@
 -- Document 01, 'Sheets': what the desk programs do with the bytes that they read. `accept` holds a proof sheet against a machine sheet;
--- `proof` sends the proof sheet of the machine on a machine sheet.
+-- `proof` sends the proof sheet of the machine on a machine sheet; `why` (02: M-105) says why two of its states are apart.
 use mathlib.Core.List.{List}
 use Prim.Native.Nat.{ℕ, _*_}
 use lib.ListN.{getD, take}
@@ -7,6 +7,7 @@ use Rattle.rules.specs.Areas.{zeros}
 use Rattle.rules.specs.Answer.{Answer, refused, gives}
 use Rattle.learning.specs.Learner as learner
 use Rattle.learning.specs.Learner.{Learnt, done, unfinished, tableSize, learn}
+use Rattle.apart.specs.Apart as apart
 use Rattle.sheets.specs.Machines.{Size, Left, readMachine}
 use Rattle.sheets.specs.Checker.{check}
 
@@ -48,3 +49,13 @@ readSent (gives s) words area = sending (learn (s .n) (s .k) (take (s .n * s .k)
 unfoldable pub send : List ℕ → List ℕ → Left ℕ
 unfolding readMachine learn zeros
 send machine area = let l = readMachine machine (zeros 576) in readSent (l .answer) (l .area) area
+
+-- ---- why
+-- for a machine sheet that can be read; a refusal leaves the area
+abbrev pub readApart : Answer Size → List ℕ → ℕ → ℕ → List ℕ → apart.Left
+readApart (refused x) words s t area = record { answer = refused x; area = area }
+readApart (gives z) words s t area = apart.apart (z .n) (z .k) (take (z .n * z .k) words) s t area
+
+unfoldable pub why : List ℕ → ℕ → ℕ → List ℕ → apart.Left
+unfolding readMachine apart.apart zeros
+why machine s t area = let l = readMachine machine (zeros 576) in readApart (l .answer) (l .area) s t area

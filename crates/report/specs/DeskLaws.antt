@@ -1,5 +1,5 @@
 -- From the bytes of the sheets to the verdict and to the sheet sent, step by step as the code goes.
-use mathlib.Core.Path.{_≡_, sym, ap, _∙_}
+use mathlib.Core.Path.{_≡_, sym, ap, _∙_, subst}
 use mathlib.Core.List.{List}
 use Prim.Native.Nat.{ℕ, _*_, _≤_}
 use native.Mathlib.Omega.{arith}
@@ -12,8 +12,10 @@ use Rattle.sheets.specs.Checker.{check}
 use Rattle.sheets.specs.Demand3.{accepts}
 use Rattle.learning.specs.Learner as learner
 use Rattle.learning.specs.Learner.{Learnt, done, unfinished, tableSize, learn}
+use Rattle.apart.specs.Apart as apart
+use Rattle.apart.specs.ApartMeans as told
 use Rattle.report.specs.ReportLaws.{SmallIfDone}
-use Rattle.report.specs.Desk.{machineRefused, judged, readJudged, verdict, lengthOf, sending, readSent, send}
+use Rattle.report.specs.Desk.{machineRefused, judged, readJudged, verdict, lengthOf, sending, readSent, send, readApart, why}
 
 module _ (machine proof area : List ℕ) (answer : Answer Size) (was : record { answer = answer; area = area } ≡ readMachine machine (zeros 576)) where
   said : verdict machine proof ≡ readJudged answer area proof
@@ -43,6 +45,22 @@ module _ (machine area words : List ℕ) (answer : Answer Size) (was : record { 
   pub learnt-sent : (s : Size) (l : learner.Left) → answer ≡ gives s → l ≡ learn (s .n) (s .k) (take (s .n * s .k) words) 48 47 (zeros tableSize) area
       → send machine area ≡ sending l
   learnt-sent s l e is = sent ∙ ap (λ (a : Answer Size). readSent a words area) e ∙ ap sending (sym is)
+
+-- ---- why two states are apart
+module _ (machine area words : List ℕ) (s t : ℕ) (answer : Answer Size) (was : record { answer = answer; area = words } ≡ readMachine machine (zeros 576)) where
+  asked : why machine s t area ≡ readApart answer words s t area
+  unfolding why
+  asked = ap (λ (l : Left Size). readApart (l .answer) (l .area) s t area) (sym was)
+
+  pub none-asked : (x : ℕ) → answer ≡ refused x → why machine s t area ≡ record { answer = refused x; area = area }
+  none-asked x e = asked ∙ ap (λ (a : Answer Size). readApart a words s t area) e
+
+  pub sheet-asked : (z : Size) (l : apart.Left) → answer ≡ gives z → l ≡ apart.apart (z .n) (z .k) (take (z .n * z .k) words) s t area
+      → (why machine s t area ≡ l) × told.Short (l .answer)
+  sheet-asked z l e is = (
+    asked ∙ ap (λ (a : Answer Size). readApart a words s t area) e ∙ sym is,
+    subst (λ (l : apart.Left). told.Short (l .answer)) (sym is) (told.always-short (z .n) (z .k) (take (z .n * z .k) words) s t area),
+  )
 
 -- a sheet that is sent has at most 9,368 bytes
 abbrev pub Short : Answer ℕ → Type 0

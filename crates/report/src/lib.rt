@@ -1,5 +1,5 @@
 // What the desk programs say. Here it is the text of `learn`, the model's lines or a refusal's one line, put into a lent area; `send` has what
-// `proof` sends, and `verdict` what `accept` says.
+// `proof` sends, `verdict` what `accept` says, and `why` what `why` does.
 ghost use mathlib.Core.Path.{_≡_};
 ghost use Prim.Native.Nat.{_+_, _*_, _<_, _≤_};
 ghost use lib.ListN.{length};
@@ -12,6 +12,7 @@ ghost use Rattle.report.specs.ReportLaws.{counted, SmallIfDone};
 
 pub mod send;
 pub mod verdict;
+pub mod why;
 
 use areas::store;
 use learning::Learnt;

@@ -13,7 +13,7 @@ use lib.Seq.{getD-append-seam, take-suc}
 use lib.Arith.{digits-div, digits-mod, digits-lt}
 use lib.Dec.{eqb, ltb}
 use Rattle.rules.specs.Least.{stable}
-use Rattle.rules.specs.Lengths.{least-short}
+use Rattle.rules.specs.Lengths.{least-short, shorter, shorter-alone}
 use Rattle.rules.specs.Tests.{outcome, eqb-true, eqb-false, is-false, not-true, not-false, ltb-yes, ltb-no, lt-yes, lt-no}
 use Rattle.rules.specs.Words.{Word, Below, Before, LeastWord, code, code-append, code-le, before-code, code-before, below-append, below-take, below-drop, below-at}
 use Rattle.rules.specs.Seek.{seek, Sought, sought}
@@ -231,10 +231,13 @@ module _ (k : ℕ) (pos : 0 < k) (M N : Machine) (whole : Complete k M) (whole�
 
     -- and it has fewer letters than the machines have states
     pub found-short : (w : Word) → difference M N k s t ≡ some w → length w < M .states + N .states
-    found-short w e = made (found w e)
-      where
-        made : Apart k M N s t w → length w < M .states + N .states
-        made f =
-            subst (λ (z : Word). length z < M .states + N .states) (sym (f .joined))
-            (least-short k M N whole whole′ s t hs ht (f .front) (f .last) (f .letters) (f .low) (f .differ)
-            (λ u c bu hc d. subst (λ (z : Word). code k 0 z ≤ code k 0 (u ++ (c ∷ []))) (f .joined) (f .least u c bu hc d)))
+    found-short w e =
+        let f = found w e in
+        least-short k (M .states + N .states) M N s t (shorter k M N whole whole′ s t hs ht (f .front) (f .last) (f .letters) (f .low) (f .differ)) w (f .least)
+
+-- of two states of one machine, fewer than it has states
+pub found-alone : (k : ℕ) → 0 < k → (M : Machine) → Complete k M → (s t : ℕ) → s < M .states → t < M .states
+    → (w : Word) → difference M M k s t ≡ some w → length w < M .states
+found-alone k pos M whole s t hs ht w e =
+    let f = found k pos M M whole whole s t hs ht w e in
+    least-short k (M .states) M M s t (shorter-alone k M whole s t hs ht (f .front) (f .last) (f .letters) (f .low) (f .differ)) w (f .least)

@@ -1,12 +1,12 @@
 -- Runs of machines: a word in two parts, answers and last outputs, and that equal machines are those whose questions are answered alike.
 use mathlib.Core.Path.{_≡_, refl, sym, ap, ap₂, _∙_}
-use mathlib.Core.List.{List, [], _∷_, _++_}
-use Prim.Native.Nat.{ℕ, suc, _-_, _≤_, _<_}
+use mathlib.Core.List.{List, [], _∷_, _++_, head-eq-of-cons-eq, tail-eq-of-cons-eq}
+use Prim.Native.Nat.{ℕ, suc, _≤_, _<_}
 use native.Mathlib.Nat.{not-suc-le-zero}
 use native.Mathlib.Omega.{arith}
-use lib.ListN.{length, getD, take, length-append}
+use lib.ListN.{length, getD, length-append}
 use lib.Seq.{getD-at}
-use Rattle.rules.specs.Words.{Word, Below, below-append, below-take, below-at, snoc-of}
+use Rattle.rules.specs.Words.{Word, Below, below-append}
 use Rattle.rules.specs.Search.{walk, walk-append}
 use Rattle.rules.specs.Machine.{Machine, answerFrom, answer, lastFrom, ask, Equal}
 
@@ -55,13 +55,17 @@ module _ (M : Machine) where
       ∙ sym (getD-at (answerFrom M 0 v) (M .out (walk (M .next) 0 v) a) [] 0 (length v) (answer-length 0 v))
       ∙ ap (λ (l : List ℕ). getD l (length v) 0) (sym (answer-append 0 v (a ∷ [])))
 
+-- a word that is answered alike has the same last output
+pub answers-last : (M N : Machine) (o s t : ℕ) (w : Word) → answerFrom M s w ≡ answerFrom N t w → lastFrom M o s w ≡ lastFrom N o t w
+unfolding answerFrom lastFrom
+answers-last M N o s t [] e = refl
+answers-last M N o s t (a ∷ w) e =
+    ap (λ (x : ℕ). lastFrom M x (M .next s a) w) (head-eq-of-cons-eq e) ∙ answers-last M N (N .out t a) (M .next s a) (N .next t a) w (tail-eq-of-cons-eq e)
+
 -- ---- equal machines are those that answer each question alike
 pub equal-asks : (k : ℕ) (M N : Machine) → Equal k M N → (w : Word) → Below k w → 1 ≤ length w → ask M w ≡ ask N w
-equal-asks k M N e w b h = rw (snoc-of w h) (same (take (length w - 1) w) (getD w (length w - 1) 0) (below-take k (length w - 1) w b) (below-at k w (length w - 1) b (omega arith)))
-  where
-    same : (v : Word) (a : ℕ) → Below k v → a < k → ask M (v ++ (a ∷ [])) ≡ ask N (v ++ (a ∷ []))
-    same v a bv ha =
-        ask-last M v a ∙ ap (λ (l : List ℕ). getD l (length v) 0) (e (v ++ (a ∷ [])) (below-append k v (a ∷ []) bv (ha, tt))) ∙ sym (ask-last N v a)
+unfolding ask answer
+equal-asks k M N e w b h = answers-last M N 0 0 0 w (e w b)
 
 pub asks-equal : (k : ℕ) (M N : Machine) → ((w : Word) → Below k w → 1 ≤ length w → ask M w ≡ ask N w) → Equal k M N
 unfolding answer

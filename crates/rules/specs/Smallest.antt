@@ -11,13 +11,13 @@ use lib.ListN.{length, getD, length-append}
 use Rattle.rules.specs.Least.{Least, least, at-most}
 use Rattle.rules.specs.Words.{Word, Below, below-append}
 use Rattle.rules.specs.Search.{walk, walk-append}
-use Rattle.rules.specs.Machine.{Machine, Complete, answerFrom, lastFrom, ask, Equal}
-use Rattle.rules.specs.MachineLaws.{walk-low, last-append, last-any, ask-snoc, equal-asks}
+use Rattle.rules.specs.Machine.{Machine, Complete, answerFrom, lastFrom, ask, Equal, SmallestModel}
+use Rattle.rules.specs.MachineLaws.{walk-low, last-append, last-any, ask-snoc, equal-asks, answers-last}
 use Rattle.rules.specs.Table.{cells, move, conjecture}
 use Rattle.rules.specs.Closing.{Told, Words, Columns, cells-ext, cells-at, told-place, state-same}
 use Rattle.rules.specs.Stages.{Stage}
 use Rattle.rules.specs.DifferenceLaws.{agrees-none}
-use Rattle.rules.specs.Links.{counterexample, conjecture-complete}
+use Rattle.rules.specs.Links.{counterexample, stopped, conjecture-complete, at-stop, rounds-enough, done-smallest}
 
 -- m different numbers below m: each number below m is among them
 pub onto : (m : ℕ) (f : ℕ → ℕ) → ((i : ℕ) → i < m → f i < m) → ((i j : ℕ) → i < j → j < m → f i ≢ f j) → (t : ℕ) → t < m → Least (λ i. f i ≡ t) m
@@ -150,3 +150,23 @@ module _ (k : ℕ) (pos : 0 < k) (M : Machine) (whole : Complete k M) {p : ℕ} 
       let C = conjecture-complete k M st in
       agrees-none k pos M (conjecture (ask M) E S) whole C 0 0 (whole .0) (C .0)
       (λ w b. ap (λ (v : Word). answerFrom M (walk (M .next) 0 v) w) (sym (st .head)) ∙ alike 0 w (omega (arith, st .grown)) b)
+
+-- A smallest model has no two states that answer every word alike: held against itself, a table with rounds enough tells them apart.
+pub one-of-alike : {k : ℕ} {M N : Machine} → 0 < k → SmallestModel k M N → (s t : ℕ) → s < N .states → t < N .states
+    → ((w : Word) → Below k w → answerFrom N s w ≡ answerFrom N t w) → s ≡ t
+unfolding conjecture
+one-of-alike {k} {M} {N} pos m s t hs ht alike =
+    let R = N .states in
+    let st = at-stop k N pos (m .complete) R .stage in
+    let C = done-smallest k N pos (m .complete) R (rounds-enough k N pos (m .complete) R (omega arith)) in
+    let own : Tells k N N (stopped k N R .E) (stopped k N R .S) =
+    record {
+      whole = m .complete;
+      equal = λ w b. refl;
+      told = st .told;
+      words = st .words;
+      columns = st .columns;
+      letters = st .letters;
+      few = m .fewest (conjecture (ask N) (stopped k N R .E) (stopped k N R .S)) (C .complete) (λ w b. m .equal w b ∙ C .equal w b);
+    } in
+    one-state own s t hs ht (λ c h. answers-last N N 0 s t (getD (stopped k N R .E) c []) (alike (getD (stopped k N R .E) c []) (st .letters c h)))

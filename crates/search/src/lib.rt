@@ -200,8 +200,7 @@ fn first_apart(
     j
 }
 
-// The least word that the state `s` of the first machine and `t` of the second answer differently is put to the start of `into`. Answers its
-// length, 0 where there is none. The arrays have no place marked yet.
+// `difference_from` with its arrays, which have no place marked yet.
 fn differ(
     words: &[u16],
     n: usize,
@@ -243,6 +242,43 @@ fn differ(
     0
 }
 
+// The least word that the state `s` of the first machine and `t` of the second answer differently is put to the start of `into`. Answers its
+// length, 0 where there is none.
+pub fn difference_from(
+    words: &[u16],
+    n: usize,
+    others: &[u16],
+    m: usize,
+    k: usize,
+    s: usize,
+    t: usize,
+    into: &mut [u8],
+) -> usize
+    requires { ⌜ Beside n m k (now words) (now others) ⌝ }
+    requires { ⌜ (s < n) × (t < m) × (n + m ≤ length (now into)) ⌝ }
+    ensures { λ r. ⌜ r ≡ foundLength (rule.difference (link n k (now (words .entry))) (link m k (now (others .entry))) k s t) ⌝ }
+    ensures { λ r. ⌜ now (into .exit) ≡ foundPut (rule.difference (link n k (now (words .entry))) (link m k (now (others .entry))) k s t) (now (into .entry)) ⌝ }
+{
+    let mut queue = [0u16; 2304];
+    let mut seen = [false; 2304];
+    let mut parent = [0u16; 2304];
+    let mut letter = [0u8; 2304];
+    differ(
+        words,
+        n,
+        others,
+        m,
+        k,
+        s,
+        t,
+        &mut queue,
+        &mut seen,
+        &mut parent,
+        &mut letter,
+        into,
+    )
+}
+
 // Rule 5: the least word on which two machines differ is put to the start of `into`. Answers its length, 0 where there is none.
 pub fn difference(
     words: &[u16],
@@ -257,24 +293,7 @@ pub fn difference(
     ensures { λ r. ⌜ r ≡ foundLength (rule.difference (link n k (now (words .entry))) (link m k (now (others .entry))) k 0 0) ⌝ }
     ensures { λ r. ⌜ now (into .exit) ≡ foundPut (rule.difference (link n k (now (words .entry))) (link m k (now (others .entry))) k 0 0) (now (into .entry)) ⌝ }
 {
-    let mut queue = [0u16; 2304];
-    let mut seen = [false; 2304];
-    let mut parent = [0u16; 2304];
-    let mut letter = [0u8; 2304];
-    differ(
-        words,
-        n,
-        others,
-        m,
-        k,
-        0,
-        0,
-        &mut queue,
-        &mut seen,
-        &mut parent,
-        &mut letter,
-        into,
-    )
+    difference_from(words, n, others, m, k, 0, 0, into)
 }
 
 // The word of place `p` is put into slot `p` of `reach`.

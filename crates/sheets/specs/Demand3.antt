@@ -15,9 +15,9 @@ use Rattle.rules.specs.Sheets.{Proof, proofBytes}
 use Rattle.rules.specs.Areas.{over}
 use Rattle.rules.specs.Answer.{Answer, refused, gives}
 use Rattle.machine.specs.Lent.{link, lentCheck}
-use Rattle.machine.specs.LentLaws.{lent-sound}
+use Rattle.machine.specs.LentLaws.{both, lent-sound}
 use Rattle.learning.specs.Learner.{Counts, done, learnCheck, learnLeaves, learn}
-use Rattle.learning.specs.Outcomes.{both, taken, at-done, ended}
+use Rattle.learning.specs.Outcomes.{taken, at-done, ended}
 use Rattle.learning.specs.Proper.{Proper, sound-proper}
 use Rattle.learning.specs.Finished.{sheetOf}
 use Rattle.learning.specs.Demand2.{done-sheet, done-bytes}

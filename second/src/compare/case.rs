@@ -1,6 +1,7 @@
 //! One case for the proved program: its bytes, and the bytes of its answer as this program gives it.
 //! The head comment of that program (crates/answers/src/main.rt) has the protocol.
 
+use crate::apart::{self, Told};
 use crate::checker;
 use crate::learner::{self, Answer};
 use crate::machine::{self, OwnedMachine};
@@ -18,10 +19,11 @@ pub enum Operation {
     Question = 5,
     Learn = 6,
     Check = 7,
+    WhyApart = 8,
 }
 
 impl Operation {
-    pub const ALL: [Operation; 7] = [
+    pub const ALL: [Operation; 8] = [
         Operation::ReadMachine,
         Operation::WriteMachine,
         Operation::ReadProof,
@@ -29,6 +31,7 @@ impl Operation {
         Operation::Question,
         Operation::Learn,
         Operation::Check,
+        Operation::WhyApart,
     ];
 
     pub fn name(self) -> &'static str {
@@ -40,6 +43,7 @@ impl Operation {
             Operation::Question => "questions",
             Operation::Learn => "machines learnt",
             Operation::Check => "proof sheets checked",
+            Operation::WhyApart => "states told apart",
         }
     }
 
@@ -53,6 +57,7 @@ impl Operation {
             Operation::Question => (&[Outcome::Answered], &[1, 3, 4, 5, 6]),
             Operation::Learn => (&[Outcome::Done, Outcome::Open], &[1, 3, 4, 5, 7, 8, 9, 10]),
             Operation::Check => (&[Outcome::Accepted], &[1, 2, 3, 4, 5, 6, 11, 12, 13, 14]),
+            Operation::WhyApart => (&[Outcome::Answered, Outcome::None], &[1, 3, 4, 5, 9]),
         };
         let refusals = refusals.iter().copied().map(Outcome::Refused);
         answers.iter().copied().chain(refusals).collect()
@@ -67,6 +72,7 @@ pub enum Outcome {
     Done,
     Open,
     Accepted,
+    None,
     Refused(u8),
 }
 
@@ -78,6 +84,7 @@ impl Display for Outcome {
             Outcome::Done => write!(to, "done"),
             Outcome::Open => write!(to, "open"),
             Outcome::Accepted => write!(to, "accepted"),
+            Outcome::None => write!(to, "none"),
             Outcome::Refused(number) => write!(to, "refused {number}"),
         }
     }
@@ -120,6 +127,8 @@ const REFUSED: u8 = 0;
 const ANSWERED: u8 = 1;
 /// The learner's second kind of answer; its first is Done.
 const OPEN: u8 = 2;
+/// No word tells two states apart.
+const NONE: u8 = 2;
 
 /// An answer's kind and its numbers.
 type Head = (u8, [usize; 4]);
@@ -184,6 +193,14 @@ impl Case {
         Case {
             operation: Operation::Check,
             ..Case::question(machine, sheet)
+        }
+    }
+
+    pub fn why_apart(machine: &Lent, (s, t): (u16, u16), area: u16, seed: u8) -> Case {
+        Case {
+            operation: Operation::WhyApart,
+            numbers: [machine.n, machine.k, s, t],
+            ..Case::write_machine(machine, area, seed)
         }
     }
 
@@ -259,6 +276,11 @@ impl Case {
                 let checked = checker::check(&words_of(first), a, b, second);
                 answer_bytes(head(checked.map(|()| [0; 4])), &[])
             }
+            Operation::WhyApart => {
+                let mut area = self.noise(0);
+                let told = apart::why_apart(&words_of(first), a, b, (l, r), &mut area);
+                answer_bytes(why_head(told), &area)
+            }
         }
     }
 
@@ -276,6 +298,7 @@ impl Case {
             (REFUSED, _) => Outcome::Refused(number_at(answer, 0) as u8),
             (OPEN, Operation::Learn) => Outcome::Open,
             (_, Operation::Learn) => Outcome::Done,
+            (NONE, Operation::WhyApart) => Outcome::None,
             (_, Operation::Check) => Outcome::Accepted,
             (_, Operation::AwRecord) if answer.len() == ANSWER_HEAD => Outcome::Empty,
             _ => Outcome::Answered,
@@ -340,6 +363,17 @@ fn learner_head(answer: Answer) -> Head {
             bytes,
         } => (OPEN, [states, rounds, cells, bytes]),
         Answer::Refused(number) => head(Err(number)),
+    }
+}
+
+fn why_head(answer: Result<Option<Told>, u8>) -> Head {
+    let values = |told: Told| {
+        let [first, second] = [told.first, told.second].map(usize::from);
+        [told.length, first, second, 0]
+    };
+    match answer {
+        Ok(None) => (NONE, [0; 4]),
+        answer => head(answer.map(|told| told.map_or([0; 4], values))),
     }
 }
 

@@ -1,7 +1,7 @@
 //! The families of cases, one file each, and which cases a run has.
 
 use super::case::{Case, Operation};
-use super::{checking, learning, reading};
+use super::{checking, learning, reading, states};
 use crate::generator::{self, Rng};
 use crate::machine::OwnedMachine;
 
@@ -10,16 +10,23 @@ pub enum Family {
     Sheets,
     Learner,
     Checker,
+    States,
 }
 
 impl Family {
-    pub const ALL: [Family; 3] = [Family::Sheets, Family::Learner, Family::Checker];
+    pub const ALL: [Family; 4] = [
+        Family::Sheets,
+        Family::Learner,
+        Family::Checker,
+        Family::States,
+    ];
 
     pub fn name(self) -> &'static str {
         match self {
             Family::Sheets => "sheets",
             Family::Learner => "learner",
             Family::Checker => "checker",
+            Family::States => "states",
         }
     }
 
@@ -35,6 +42,7 @@ impl Family {
             ],
             Family::Learner => &[Operation::Learn],
             Family::Checker => &[Operation::Check],
+            Family::States => &[Operation::WhyApart],
         }
     }
 
@@ -43,6 +51,7 @@ impl Family {
             Family::Sheets => reading::fixed(give),
             Family::Learner => learning::fixed(give),
             Family::Checker => checking::fixed(give),
+            Family::States => states::fixed(give),
         }
     }
 
@@ -51,6 +60,7 @@ impl Family {
             Family::Sheets => reading::generated(machine, rng, give),
             Family::Learner => learning::generated(machine, rng, give),
             Family::Checker => checking::generated(machine, rng, give),
+            Family::States => states::generated(machine, rng, give),
         }
     }
 }

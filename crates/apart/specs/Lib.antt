@@ -1,0 +1,5 @@
+pub mod Apart
+pub mod Answers
+pub mod ApartLaws
+pub mod ApartMeans
+pub mod Cases
