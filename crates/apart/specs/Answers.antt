@@ -35,12 +35,15 @@ why-of-fixed (why.Refused r) why.None e = cc
 why-of-fixed (why.Refused r) (why.Told l a b) e = cc
 why-of-fixed (why.Refused r) (why.Refused s) e = let h : number r ≡ number s = cc in ap why.Refused (number-inj r s h)
 
--- what `why_apart` promises of an answer x and of the area a after it
-abbrev pub Promise : ℕ → ℕ → List ℕ → ℕ → ℕ → List ℕ → Why → List ℕ → Type 0
-Promise n k words s t area x a = record { answer = whyOf x; area = a } ≡ apart n k words s t area
+-- an answer x and the area a after it, promised to be what is left
+abbrev pub Promise : Left → Why → List ℕ → Type 0
+Promise l x a = record { answer = whyOf x; area = a } ≡ l
 
-pub why-apart-fixed : (n k : ℕ) (words : List ℕ) (s t : ℕ) (area : List ℕ) (x y : Why) (a b : List ℕ)
-    → Promise n k words s t area x a → Promise n k words s t area y b → (x ≡ y) × (a ≡ b)
-why-apart-fixed n k words s t area x y a b p q =
+pub left-fixed : (l : Left) (x y : Why) (a b : List ℕ) → Promise l x a → Promise l y b → (x ≡ y) × (a ≡ b)
+left-fixed l x y a b p q =
     let e = p ∙ sym q in
     (why-of-fixed x y (ap (λ (l : Left). l .answer) e), ap (λ (l : Left). l .area) e)
+
+pub why-apart-fixed : (n k : ℕ) (words : List ℕ) (s t : ℕ) (area : List ℕ) (x y : Why) (a b : List ℕ)
+    → Promise (apart n k words s t area) x a → Promise (apart n k words s t area) y b → (x ≡ y) × (a ≡ b)
+why-apart-fixed n k words s t area = left-fixed (apart n k words s t area)

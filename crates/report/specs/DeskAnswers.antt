@@ -5,13 +5,15 @@ use Prim.Native.Nat.{ℕ}
 use native.Mathlib.Omega.{arith}
 use Rattle.machine.specs.Refusals.{number, number-inj}
 use Rattle.rules.specs.Answer.{Answer, refused, gives}
+use Rattle.apart.specs.declared.Why.{Why}
+use Rattle.apart.specs.Answers.{Promise, left-fixed}
 use Rattle.sheets.specs.Machines.{Left}
 use Rattle.sheets.specs.WordSteps as answers
 use Rattle.report.specs.declared.verdict.Verdict as declared
 use Rattle.report.specs.declared.verdict.Verdict.the-variants as says
 use Rattle.report.specs.declared.send.Sent.{Sent}
 use Rattle.report.specs.declared.send.Sent.the-variants as sends
-use Rattle.report.specs.Desk.{Verdict, accepted, machineRefused, proofRefused, verdict, send}
+use Rattle.report.specs.Desk.{Verdict, accepted, machineRefused, proofRefused, verdict, send, why}
 
 abbrev pub verdictOf : declared.Verdict → Verdict
 verdictOf (says.Accepted m) = accepted m
@@ -55,3 +57,8 @@ pub send-fixed : (machine area : List ℕ) (x y : Sent) (a b : List ℕ) → Sen
 send-fixed machine area x y a b p q =
     let e = p ∙ sym q in
     (sent-of-fixed x y (ap (λ (l : Left ℕ). l .answer) e), ap (λ (l : Left ℕ). l .area) e)
+
+-- why two states are apart
+pub why-fixed : (machine : List ℕ) (s t : ℕ) (area : List ℕ) (x y : Why) (a b : List ℕ) → Promise (why machine s t area) x a → Promise (why machine s t area) y b
+    → (x ≡ y) × (a ≡ b)
+why-fixed machine s t area = left-fixed (why machine s t area)

@@ -40,7 +40,7 @@ pub fn fixed(give: &mut dyn FnMut(Case)) {
 fn every_limit(machine: &Lent, give: &mut dyn FnMut(Case)) {
     for l in [0, 1, 2, 3, 4, 47, 48, 49, u16::MAX] {
         for r in [0, 1, 2, 46, 47, 48, u16::MAX] {
-            let seed = (7 * l).wrapping_add(r) as u8;
+            let seed = l.wrapping_mul(7).wrapping_add(r) as u8;
             give(Case::learn(machine, (l, r), EXACT_AREAS, seed));
         }
     }
