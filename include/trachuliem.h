@@ -90,6 +90,15 @@ typedef struct {
     size_t c; /* columns */
 } trachuliem_counts;
 
+/* Why two states are apart: kind is 0 for a refusal, 1 where a word tells them apart and 2 for none. */
+typedef struct {
+    uint8_t kind;
+    uint8_t refusal;
+    size_t length;  /* letters of the word, at the start of the area */
+    uint8_t first;  /* the word's last output from the first state */
+    uint8_t second; /* and from the second */
+} trachuliem_apart;
+
 /* A part of a lent sheet: its first byte's place in the sheet, and its length. The empty part is 0, 0. */
 typedef struct {
     size_t place;
@@ -127,6 +136,11 @@ trachuliem_part trachuliem_aw_record(const uint8_t *sheet, size_t sheet_length, 
 /* Checks a proof sheet against a machine and writes nothing. Answers 0 or the refusal's number: machine, sheet, 11 to 14. */
 uint8_t trachuliem_check_proof(const uint16_t *words, size_t words_length, size_t n, size_t k, const uint8_t *sheet,
                                size_t sheet_length);
+
+/* The least word that the states s and t of a machine answer differently goes to an area of 47 bytes; bytes past it stay. Refusals: machine, then
+ * 4 for a state not below n, then 9 for a smaller area. */
+trachuliem_apart trachuliem_why_apart(const uint16_t *words, size_t words_length, size_t n, size_t k, size_t s, size_t t,
+                                      uint8_t *area, size_t area_length);
 
 #ifdef __cplusplus
 }

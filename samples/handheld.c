@@ -60,5 +60,12 @@ int main(void) {
     printf("checked %u\n", trachuliem_check_proof(words, length, size.n, size.k, sheet, done.bytes));
     sheet[done.bytes - 1] = 2; /* the state map's last byte: state 3 is not the model's state 2 */
     printf("checked %u\n", trachuliem_check_proof(words, length, size.n, size.k, sheet, done.bytes));
+
+    for (size_t state = 1; state <= size.n; state++) {
+        uint8_t area[47];
+        trachuliem_apart why = trachuliem_why_apart(words, length, size.n, size.k, 0, state, area, sizeof area);
+        printf("0 and %zu %u %u: outputs %u and %u after", state, why.kind, why.refusal, why.first, why.second);
+        print_bytes("", area, why.length);
+    }
     return 0;
 }

@@ -14,7 +14,10 @@ ghost use Rattle.sheets.specs.ProofAnswers as proofAnswers;
 ghost use Rattle.sheets.specs.Proofs.{readProof, awRecord};
 ghost use Rattle.sheets.specs.ProofParts.{awPlace};
 ghost use Rattle.sheets.specs.Checker as checker;
-ghost use Rattle.handheld.specs.Handheld.{refusalOf, outputOf, sizeOf, lengthOf, outcomeOf, countsOf};
+ghost use Rattle.apart.specs.Answers.{whyOf};
+ghost use Rattle.apart.specs.Apart as states;
+ghost use Rattle.handheld.specs.Handheld.{refusalOf, outputOf, sizeOf, lengthOf, outcomeOf, countsOf, apartOf};
+use apart::Why;
 use learning::Learnt;
 use machine::Answered;
 use machine::Checked;
@@ -64,6 +67,16 @@ pub struct Counts {
     pub k: usize,
     pub n: usize,
     pub c: usize,
+}
+
+// `kind` is 0 for a refusal, 1 where a word tells the two states apart and 2 for none.
+#[repr(C)]
+pub struct Apart {
+    pub kind: u8,
+    pub refusal: u8,
+    pub length: usize,
+    pub first: u8,
+    pub second: u8,
 }
 
 // A part of a lent sheet. The empty part is at 0.
@@ -182,6 +195,38 @@ fn counts_of(a: ProofRead) -> Counts
     }
 }
 
+fn apart_of(a: Why) -> Apart
+    ensures { λ r. ⌜ r ≡ apartOf (whyOf a) ⌝ }
+{
+    match a {
+        Why::Told {
+            length,
+            first,
+            second,
+        } => Apart {
+            kind: 1,
+            refusal: 0,
+            length,
+            first,
+            second,
+        },
+        Why::None => Apart {
+            kind: 2,
+            refusal: 0,
+            length: 0,
+            first: 0,
+            second: 0,
+        },
+        Why::Refused(r) => Apart {
+            kind: 0,
+            refusal: refusal::number(r),
+            length: 0,
+            first: 0,
+            second: 0,
+        },
+    }
+}
+
 #[no_mangle]
 pub extern "C" fn trachuliem_check_machine(words: &[u16], n: usize, k: usize) -> u8
     ensures { λ r. ⌜ r ≡ refusalOf (lentCheck n k (now (words .entry))) ⌝ }
@@ -263,4 +308,19 @@ pub extern "C" fn trachuliem_check_proof(words: &[u16], n: usize, k: usize, shee
     ensures { λ r. ⌜ r ≡ refusalOf (checker.check n k (now (words .entry)) (now (sheet .entry))) ⌝ }
 {
     number_of(checker::check(words, n, k, sheet))
+}
+
+#[no_mangle]
+pub extern "C" fn trachuliem_why_apart(
+    words: &[u16],
+    n: usize,
+    k: usize,
+    s: usize,
+    t: usize,
+    area: &mut [u8],
+) -> Apart
+    ensures { λ r. ⌜ r ≡ apartOf (states.apart n k (now (words .entry)) s t (now (area .entry)) .answer) ⌝ }
+    ensures { λ _. ⌜ now (area .exit) ≡ states.apart n k (now (words .entry)) s t (now (area .entry)) .area ⌝ }
+{
+    apart_of(apart::why_apart(words, n, k, s, t, area))
 }
