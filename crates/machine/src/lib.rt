@@ -2,6 +2,8 @@
 //
 // A machine is lent as n·k words, state by state and letter by letter; a word is 256·next + output. `check` and `question` take every
 // input and refuse by the paper's numbers; the other functions are for the layers above, which call them after the check at the door.
+#![tactic(auto)]
+
 ghost use Rattle.std.specs.Prelude.{◌≡◌, true, ℕ, ◌+◌, ◌*◌, ◌/◌, ◌%◌, ◌<◌, ◌≤◌, length, get_or};
 ghost use Rattle.rules.specs.Search.{walk};
 ghost use Rattle.rules.specs.Machine.{Machine, lent, last_from, ask};
