@@ -1,6 +1,8 @@
 // Holds a proof sheet against a machine sheet: `accept MACHINE-SHEET PROOF-SHEET`, two files by name. It prints one line, `accepted` with the
 // size of the smallest model that the proof sheet has, or a refusal with its number and which sheet it is of. What the line says is the
 // verdict of `report::verdict`; this program reads the files and spells it out.
+#![tactic(auto)]
+
 use machine::refusal::Refusal;
 use report::verdict;
 use report::verdict::Verdict;

@@ -32,6 +32,8 @@
 //
 // The program ends with its input, at a case that does not fit its buffers, and at an operation that it does not know: whoever counts the
 // answers sees that.
+#![tactic(auto)]
+
 ghost use Rattle.std.specs.Prelude.{◌≡◌, ◌*◌, ◌≤◌, length};
 
 mod areas;

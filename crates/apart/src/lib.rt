@@ -1,4 +1,6 @@
 // Why are these two apart? The least word that two states of a lent machine answer differently, unreachable states too.
+#![tactic(auto)]
+
 ghost use Rattle.std.specs.Prelude.{◌≡◌, ℕ, ◌<◌, ◌≤◌, length};
 ghost use Rattle.std.proofs.Math.Option.{some};
 ghost use Rattle.rules.specs.Words.{Below};

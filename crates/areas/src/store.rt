@@ -8,7 +8,7 @@ pub fn put_letters(area: &mut [u8], at: usize, w: &[u8])
     requires { at + length w.now ≤ length area.old }
     ensures { area.new ≡ put at w.now area.old }
 {
-    bytes::copy(w, &mut area[at..]);
+    area[at..at + w.len()].copy_from_slice(w);
 }
 
 // The word of slot `j` is put into `area` from `at` on. Answers where it ends.

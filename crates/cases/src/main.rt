@@ -1,4 +1,6 @@
 // Every case of document 01, marked P or Run, answered by the proved operations: a line for each, to be held against the paper.
+#![tactic(auto)]
+
 use learning::Learnt;
 use machine::refusal::Refusal;
 use machine::{Checked, refusal};

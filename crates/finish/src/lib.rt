@@ -1,4 +1,6 @@
 // The finished proof sheet: the model numbered by least words, the columns in table order, the state map.
+#![tactic(auto)]
+
 ghost use Rattle.std.specs.Prelude.{◌≡◌, ◌++◌, ◌∷◌, [], map, ◌+◌, ◌*◌, ◌<◌, ◌≤◌, length, get_or, take};
 ghost use Rattle.rules.specs.Search.{walk};
 ghost use Rattle.rules.specs.Table.{from};

@@ -1,6 +1,8 @@
 // Every public operation for C: include/trachuliem.h has the other side. No enum and no part of a slice goes over to C, so that an answer is
 // a struct of its numbers, and the AW record is its place and length. What each function promises is the operation's own definition, with
 // the answer put into the struct by `Handheld`.
+#![tactic(auto)]
+
 ghost use Rattle.std.specs.Prelude.{◌≡◌, length};
 ghost use Rattle.machine.specs.Answers.{checked, answered};
 ghost use Rattle.machine.specs.Lent.{lent_check};

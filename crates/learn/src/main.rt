@@ -1,5 +1,7 @@
 // Learns the machine on a machine sheet: reads the sheet on standard input and prints its smallest model, or one line with a refusal's
 // number. What is printed is what `report` puts into its area; this program reads and writes, and does no more.
+#![tactic(auto)]
+
 ghost use Rattle.std.specs.Prelude.{◌≡◌, length};
 
 // Room for the text. The `ensures` gives only the length, which the text needs.

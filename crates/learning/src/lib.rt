@@ -2,6 +2,8 @@
 //
 // `learn` takes every input and refuses by the paper's numbers. The rules stand in modules of their own: `table` and `closing` (1 to 4),
 // `rounds` (6), and `finish` for the proof sheet; rule 5 is the search's, which is a crate of its own, since it reads the machine's words.
+#![tactic(auto)]
+
 ghost use Rattle.std.specs.Prelude.{◌≡◌, ℕ, ◌+◌, ◌*◌, ◌<◌, ◌≤◌, length, take};
 ghost use Rattle.rules.specs.Areas.{over, zeros};
 ghost use Rattle.rules.specs.Sheets.{CX, word_bytes};

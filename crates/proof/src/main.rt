@@ -1,5 +1,7 @@
 // Sends the proof sheet of the machine on a machine sheet: reads the sheet on standard input and writes the proof sheet's bytes on standard
 // output. A refusal goes to standard error as `refused` with its number. What is sent is what `report::send` leaves in its area.
+#![tactic(auto)]
+
 ghost use Rattle.std.specs.Prelude.{◌≡◌, length};
 
 use machine::refusal::Refusal;

@@ -1,5 +1,7 @@
 // What the desk programs say. Here it is the text of `learn`, the model's lines or a refusal's one line, put into a lent area; `send` has what
 // `proof` sends, `verdict` what `accept` says, and `why` what `why` does.
+#![tactic(auto)]
+
 ghost use Rattle.std.specs.Prelude.{◌≡◌, ◌+◌, ◌*◌, ◌<◌, ◌≤◌, length};
 ghost use Rattle.text.specs.Putting.{Put};
 ghost use Rattle.learning.specs.Answers.{learnt};

@@ -1,1 +1,2 @@
 // Definitions and laws alone: see specs/.
+#![tactic(auto)]

@@ -1,5 +1,7 @@
 // Breadth first search over pairs of states of two lent machines. The pair of s and t is s·m + t. Place p of the queue has its pair, the place
 // from which it was met, and the letter: these spell the least word that leads to it.
+#![tactic(auto)]
+
 ghost use Rattle.std.specs.Prelude.{◌≡◌, List, ◌∷◌, ℕ, suc, ◌+◌, ◌*◌, ◌-◌, ◌<◌, ◌≤◌, length, get_or, eqb};
 ghost use Rattle.machine.specs.Lent.{link, Steps};
 ghost use Rattle.rules.specs.Areas.{put};

@@ -1,4 +1,6 @@
 // Sheets and the checker.
+#![tactic(auto)]
+
 pub mod checker;
 pub mod machines;
 pub mod proofs;

@@ -1,6 +1,8 @@
 // Says why two states of a machine are apart: `why S T`, with the machine sheet on standard input. It prints one line: `word` with the letters
 // of the least word that the two answer differently, and its last output from each; `none`; or `refused` with its number. What the line says
 // is the answer of `report::why`; this program reads the sheet and spells it out.
+#![tactic(auto)]
+
 ghost use Rattle.std.specs.Prelude.{◌≤◌};
 
 use apart::Why;
