@@ -11,7 +11,7 @@ use Rattle.rules.specs.Words.{Word}
 use Rattle.rules.specs.Seek.{seek, seek_same, sought}
 use Rattle.rules.specs.Search.{Entry, walk}
 use Rattle.rules.specs.Machine.{Machine, Complete, lent}
-use Rattle.rules.specs.Table.{from, conjecture}
+use Rattle.rules.specs.Table.{from}
 use Rattle.rules.specs.Closing.{Words}
 use Rattle.rules.specs.FromLaws.{map_from_length}
 use Rattle.rules.specs.Areas.{put, put_put}
