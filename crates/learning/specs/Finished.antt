@@ -9,7 +9,7 @@ use Rattle.rules.specs.Machine.{Machine, ask, SmallestModel, ByLeastWords}
 use Rattle.rules.specs.MachineLaws.{walk_low, ask_snoc}
 use Rattle.rules.specs.Table.{conjecture}
 use Rattle.rules.specs.Links.{stopped, at_stop, done_smallest}
-use Rattle.rules.specs.Numbering.{place, order, renumbered, model_state, state_map}
+use Rattle.rules.specs.Numbering.{place, order, renumbered, model_state}
 use Rattle.rules.specs.NumberingLaws.{renumbered_complete, number_of, numbered}
 use Rattle.rules.specs.Same.{Same, words_length, same_walk, same_smallest, same_numbered, read_back}
 use Rattle.rules.specs.Smallest.{Tells, one_for_each}

@@ -1,19 +1,19 @@
 -- What the learner's operation asks for at its end: which of the three it leaves, and that the table area is the rule's, byte by byte.
-use Rattle.std.specs.Prelude.{◌≡◌, refl, ◌⊎◌, Bool, true, false, ◌&&◌, List, [], ◌∷◌, ◌++◌, map, drop, ltb}
-use Rattle.std.proofs.Common.{sym, ap, ap₂, ◌∙◌, inl, inr, div-add-mod', mod-lt, arith, length-append, length-drop, ext_get_or, get_or-append-add, get_or-drop}
+use Rattle.std.specs.Prelude.{◌≡◌, refl, ◌⊎◌, true, false, List, ◌∷◌, ◌++◌, map, drop, ltb}
+use Rattle.std.proofs.Common.{sym, ap, ◌∙◌, inl, inr, div-add-mod', mod-lt, arith, length-append, length-drop, ext_get_or, get_or-append-add, get_or-drop}
 use Rattle.std.proofs.Math.Path.{subst}
-use Rattle.std.proofs.Math.Option.{Option, none, some}
+use Rattle.std.proofs.Math.Option.{none, some}
 use Prim.Native.Nat.{ℕ, zero, suc, ◌+◌, ◌*◌, ◌-◌, ◌/◌, ◌%◌, ◌≤◌, ◌<◌}
 use Rattle.std.proofs.Math.Decide.{dec_lt}
 use Rattle.std.proofs.Math.ListN.{length, get_or, get_or-append}
-use Rattle.rules.specs.Tests.{outcome, lt_yes, lt_no, ltb_yes, ltb_no}
+use Rattle.rules.specs.Tests.{outcome, ltb_yes, ltb_no}
 use Rattle.rules.specs.Words.{Word}
 use Rattle.rules.specs.Areas.{over, zeros}
-use Rattle.rules.specs.Machine.{Machine, lent, ask}
-use Rattle.rules.specs.Table.{from, row}
+use Rattle.rules.specs.Machine.{Machine, ask}
+use Rattle.rules.specs.Table.{from}
 use Rattle.rules.specs.FromLaws.{map_from_length, map_from_at}
 use Rattle.rules.specs.Rounds.{Stop}
-use Rattle.learning.specs.Learner.{Left, table_byte, table_bytes, stop_leaves, table_size, table_width}
+use Rattle.learning.specs.Learner.{table_byte, table_bytes, stop_leaves}
 use Rattle.learning.specs.Outcomes.{Outcome, over_limit, is_done, is_open, ten_leaves, done_leaves, open_leaves}
 use Rattle.learning.specs.Outcomes as outcomes
 use Rattle.learning.specs.Grid.{Holds, Beyond}

@@ -1,12 +1,12 @@
 -- What the learner leaves where the rounds stop, made of what the desk holds there.
-use Rattle.std.specs.Prelude.{◌≡◌, refl, List, ◌++◌, ℕ, ◌+◌, ◌*◌, ◌-◌, ◌≤◌, ◌<◌, length, get_or, take, drop}
+use Rattle.std.specs.Prelude.{◌≡◌, refl, List, ◌++◌, ℕ, ◌+◌, ◌*◌, ◌-◌, ◌≤◌, ◌<◌, length, take, drop}
 use Rattle.std.proofs.Common.{sym, ap, ◌∙◌, subst, mul-le-mul, arith, length-drop, ext_get_or, get_or-drop}
 use Rattle.std.proofs.Math.Path.{ap₂}
 use Rattle.rules.specs.Words.{Word}
 use Rattle.rules.specs.Areas.{over, zeros, put, put_start}
 use Rattle.rules.specs.Answer.{Answer, refused, gives}
-use Rattle.rules.specs.Machine.{Machine, Complete, lent, ask}
-use Rattle.rules.specs.Table.{from, conjecture}
+use Rattle.rules.specs.Machine.{Machine, Complete, ask}
+use Rattle.rules.specs.Table.{conjecture}
 use Rattle.rules.specs.FromLaws.{map_from_length}
 use Rattle.rules.specs.Rounds.{Stop, cell_count}
 use Rattle.rules.specs.Links.{stopped}
