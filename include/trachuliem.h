@@ -1,4 +1,4 @@
-/* Trachuliem for C: every public operation, proved, from the archive that `rt staticlib handheld` writes (x86-64).
+/* Trachuliem for C: every public operation, proved, from the archive that `rt lib` in crates/handheld writes (x86-64).
  *
  * Document 01's words hold here. A machine has n states (1 to 48; state 0 is the start) and k letters (1 to 12); it is lent as n*k words, state
  * by state and letter by letter, each 256*next + output. Each area is lent as a pointer and its length, in bytes, or in words for words.

@@ -85,7 +85,7 @@ number here is from that run.
 - **Learning** is with L = 48 and R = 47, always Done. **Checking** is of the proof sheet that learning left, which is accepted.
   **Reading** is of the machine sheet, and then of that proof sheet. Before anything is measured, both sides' answers and the bytes of every area
   are held against each other.
-- **Ours** is the archive for C (`rt staticlib handheld`), called as `include/trachuliem.h` declares it. **Second** is the library of `second/`, in
+- **Ours** is the archive for C (`rt lib`), called as `include/trachuliem.h` declares it. **Second** is the library of `second/`, in
   the same program. Both are optimised by LLVM (second: cargo's release profile) for any x86-64.
 - Both follow the rules step by step and answer every question by running its whole word from the start; neither keeps the state at the end of
   a row. Ours works in the lent areas and in arrays on the stack, closing goes on from the row found last, and rows are compared byte by

@@ -6,6 +6,10 @@
 use machine::refusal::Refusal;
 use report::verdict;
 use report::verdict::Verdict;
+use std::env::{Env, FillError};
+use std::fs::File;
+use std::io::Read;
+use std::os::fd::AsRawFd;
 
 // A refusal's number, for printing.
 fn wide(x: u8) -> u64 {
@@ -87,39 +91,47 @@ fn print(v: Verdict) {
     }
 }
 
-// Opens the file that an argument names. Where it cannot, it says so on standard error and answers -1.
-fn open(i: usize) -> i32 {
+// Opens the file that an argument names. Where it cannot, it says so on standard error and answers nothing. A name that is no UTF-8 names no
+// file that this program can open.
+fn open(rt: &HostRuntime, i: usize) -> Option<File> {
     let mut name = io::buffer();
-    let size = os::arg(i, &mut name);
-    let file = os::open_read(&name[..size]);
-    // To read nothing fails where nothing was opened, and from a folder.
-    let mut nothing = [0u8; 1];
-    if libc::read(file, &mut nothing[..0]) < 0 {
-        io::write_all(2, b"accept: cannot read ");
-        io::write_all(2, &name[..size]);
-        io::write_all(2, b"\n");
-        return -1;
+    let size = rt.arg(i, &mut name).unwrap_or(0);
+    if let Ok(text) = str::from_utf8(&name[..size]) {
+        if let Ok(mut file) = File::open(rt, text) {
+            // To read nothing fails from a folder.
+            let mut nothing = [0u8; 1];
+            if file.read(&mut nothing[..0]).is_ok() {
+                return Some(file);
+            }
+        }
     }
-    file
+    io::write_all(2, b"accept: cannot read ");
+    io::write_all(2, &name[..size]);
+    io::write_all(2, b"\n");
+    None
+}
+
+// Whether there is an argument at that place.
+fn given(rt: &HostRuntime, i: usize) -> bool {
+    let mut name = [0u8; 1];
+    !matches!(rt.arg(i, &mut name), Err(FillError::NotPresent))
 }
 
 // Of each sheet one byte more than the longest has, so that a longer one is seen.
-fn main() {
-    if os::arg_count() != 3 {
+fn main(rt: HostRuntime) {
+    if !given(&rt, 2) || given(&rt, 3) {
         io::write_all(2, b"usage: accept MACHINE-SHEET PROOF-SHEET\n");
         return;
     }
-    let machine = open(1);
-    if machine < 0 {
+    let Some(machine) = open(&rt, 1) else {
         return;
-    }
-    let proof = open(2);
-    if proof < 0 {
+    };
+    let Some(proof) = open(&rt, 2) else {
         return;
-    }
+    };
     let mut machine_sheet = [0u8; 1253];
     let mut proof_sheet = [0u8; 9369];
-    let size = io::read_full(machine, &mut machine_sheet);
-    let end = io::read_full(proof, &mut proof_sheet);
+    let size = io::read_full(machine.as_raw_fd(), &mut machine_sheet);
+    let end = io::read_full(proof.as_raw_fd(), &mut proof_sheet);
     print(verdict::verdict_on(&machine_sheet[..size], &proof_sheet[..end]));
 }

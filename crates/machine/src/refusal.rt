@@ -2,7 +2,7 @@
 ghost use Rattle.std.specs.Prelude.{◌≡◌};
 ghost use Rattle.machine.specs.Refusals as refusals;
 
-#[derive(Drop)]
+#[derive(Clone, Copy)]
 pub enum Refusal {
     EndsEarly,
     WrongMark,

@@ -7,6 +7,7 @@ ghost use Rattle.std.specs.Prelude.{◌≤◌};
 
 use apart::Why;
 use report::why;
+use std::env::{Env, FillError};
 
 // A byte, for printing.
 fn wide(x: u8) -> u64 {
@@ -50,9 +51,9 @@ fn digit(x: u8) -> usize
 }
 
 // The state that an argument names. Numbers of states have one digit or two; other text names none.
-fn state(i: usize) -> usize {
+fn state(rt: &HostRuntime, i: usize) -> usize {
     let mut text = io::buffer();
-    let size = os::arg(i, &mut text);
+    let size = rt.arg(i, &mut text).unwrap_or(0);
     if size == 1 {
         return digit(text[0]);
     }
@@ -62,13 +63,19 @@ fn state(i: usize) -> usize {
     48
 }
 
-fn main() {
-    if os::arg_count() != 3 {
+// Whether there is an argument at that place.
+fn given(rt: &HostRuntime, i: usize) -> bool {
+    let mut text = [0u8; 1];
+    !matches!(rt.arg(i, &mut text), Err(FillError::NotPresent))
+}
+
+fn main(rt: HostRuntime) {
+    if !given(&rt, 2) || given(&rt, 3) {
         io::write_all(2, b"usage: why S T <MACHINE-SHEET\n");
         return;
     }
-    let s = state(1);
-    let t = state(2);
+    let s = state(&rt, 1);
+    let t = state(&rt, 2);
     // One byte past the longest sheet, so that a longer one is seen.
     let mut sheet = [0u8; 1253];
     let size = io::read_full(0, &mut sheet);
