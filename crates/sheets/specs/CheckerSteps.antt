@@ -24,7 +24,6 @@ use Rattle.sheets.specs.Proofs.{map_byte, proof_sheet, Counts, counts_of, read_p
 use Rattle.sheets.specs.ProofParts.{counts}
 use Rattle.sheets.specs.WordSteps.{clash}
 use Rattle.sheets.specs.Places.{laid, read_good}
-use Rattle.sheets.specs.ProofLaws.{model_sound}
 use Rattle.sheets.specs.Checker.{some_word, model_of, reaches_all, told_apart, all_apart, model_state, step_agrees, map_holds, judge, judge_sheet}
 use Rattle.sheets.specs.CheckerLaws.{or_true}
 use Rattle.sheets.specs.Held.{said, said_is, Held, model_is, mapped_states}
