@@ -1,4 +1,3 @@
-use native.Mathlib.Omega.{arith}
 use Rattle.answers.proofs.main.Given as goal
 
 abbrev pub invariant-loop-turns : goal.invariant-loop-turns

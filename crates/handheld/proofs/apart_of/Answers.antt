@@ -4,7 +4,6 @@ use Rattle.apart.specs.declared.Why.{Why}
 use Rattle.apart.specs.Answers.{why_of}
 use mathlib.Core.Path.{sym, ap, ◌∙◌}
 use Prim.Native.Nat.{ℕ}
-use borrow.Author.Rules.{rules}
 use Rattle.handheld.proofs.apart_of.Goals as goal
 
 pub returns-in-Told : goal.returns-in-Told

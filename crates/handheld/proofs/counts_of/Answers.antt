@@ -4,7 +4,6 @@ use Rattle.sheets.specs.declared.proofs.ProofRead.{ProofRead}
 use Rattle.sheets.specs.ProofAnswers.{read_of}
 use mathlib.Core.Path.{sym, ap, ◌∙◌}
 use Prim.Native.Nat.{ℕ}
-use borrow.Author.Rules.{rules}
 use Rattle.handheld.proofs.counts_of.Goals as goal
 
 pub returns-in-Read : goal.returns-in-Read

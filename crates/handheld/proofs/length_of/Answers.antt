@@ -4,7 +4,6 @@ use Rattle.sheets.specs.declared.machines.MachineWritten.{MachineWritten}
 use Rattle.sheets.specs.MachineAnswers.{written_of}
 use mathlib.Core.Path.{sym, ap, ◌∙◌}
 use Prim.Native.Nat.{ℕ}
-use borrow.Author.Rules.{rules}
 use Rattle.handheld.proofs.length_of.Goals as goal
 
 pub returns-in-Written : goal.returns-in-Written

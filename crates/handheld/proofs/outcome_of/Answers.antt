@@ -4,7 +4,6 @@ use Rattle.learning.specs.declared.Learnt.{Learnt}
 use Rattle.learning.specs.Answers.{learnt}
 use mathlib.Core.Path.{sym, ap, ◌∙◌}
 use Prim.Native.Nat.{ℕ}
-use borrow.Author.Rules.{rules}
 use Rattle.handheld.proofs.outcome_of.Goals as goal
 
 pub returns-in-Done : goal.returns-in-Done

@@ -4,7 +4,6 @@ use Rattle.machine.specs.declared.Answered.{Answered}
 use Rattle.machine.specs.Answers.{answered}
 use mathlib.Core.Path.{sym, ap, ◌∙◌}
 use Prim.Native.Nat.{ℕ}
-use borrow.Author.Rules.{rules}
 use Rattle.handheld.proofs.output_of.Goals as goal
 
 pub returns-in-Output : goal.returns-in-Output

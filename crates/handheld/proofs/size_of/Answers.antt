@@ -4,7 +4,6 @@ use Rattle.sheets.specs.declared.machines.MachineRead.{MachineRead}
 use Rattle.sheets.specs.MachineAnswers.{read_of}
 use mathlib.Core.Path.{sym, ap, ◌∙◌}
 use Prim.Native.Nat.{ℕ}
-use borrow.Author.Rules.{rules}
 use Rattle.handheld.proofs.size_of.Goals as goal
 
 pub returns-in-Read : goal.returns-in-Read

@@ -1,13 +1,11 @@
 use Rattle.rules.specs.Answer.{gives}
-use Rattle.sheets.specs.Proofs.{Counts, read_proof}
+use Rattle.sheets.specs.Proofs.{read_proof}
 use Rattle.sheets.specs.ProofAnswers.{read_of}
 use Rattle.sheets.specs.ProofParts.{counts, aw_place}
 use Rattle.sheets.specs.Places.{AwFound, aw_refused, aw_none, aw_found}
 use native.Mathlib.Omega.{arith}
 use mathlib.Core.Path.{◌≡◌, sym, ap, ◌∙◌}
-use Prim.Native.Nat.{◌+◌, ◌*◌}
 use lib.ListN.{length}
-use borrow.Author.Rules.{rules}
 use Rattle.handheld.proofs.trachuliem_aw_record.Goals as goal
 use Rattle.handheld.proofs.trachuliem_aw_record.Goals.{Else-m-state, In-Read}
 

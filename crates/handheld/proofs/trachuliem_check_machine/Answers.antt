@@ -1,6 +1,5 @@
 use Rattle.handheld.specs.Handheld.{refusal_of}
 use mathlib.Core.Path.{ap, ◌∙◌}
-use borrow.Author.Rules.{rules}
 use Rattle.handheld.proofs.trachuliem_check_machine.Goals as goal
 
 pub returns : goal.returns

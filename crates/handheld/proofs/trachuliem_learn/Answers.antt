@@ -1,7 +1,6 @@
 use Rattle.handheld.specs.Handheld.{outcome_of}
 use Rattle.learning.specs.Learner.{Left}
 use mathlib.Core.Path.{ap, ◌∙◌}
-use borrow.Author.Rules.{rules}
 use Rattle.handheld.proofs.trachuliem_learn.Goals as goal
 
 pub returns : goal.returns

@@ -1,6 +1,5 @@
 use Rattle.handheld.specs.Handheld.{output_of}
 use mathlib.Core.Path.{ap, ◌∙◌}
-use borrow.Author.Rules.{rules}
 use Rattle.handheld.proofs.trachuliem_question.Goals as goal
 
 pub returns : goal.returns

@@ -1,7 +1,6 @@
 use Rattle.handheld.specs.Handheld.{size_of}
 use Rattle.sheets.specs.Machines.{Size, Left}
 use mathlib.Core.Path.{ap, ◌∙◌}
-use borrow.Author.Rules.{rules}
 use Rattle.handheld.proofs.trachuliem_read_machine.Goals as goal
 
 pub returns : goal.returns

@@ -1,7 +1,6 @@
 use Rattle.handheld.specs.Handheld.{apart_of}
 use Rattle.apart.specs.Apart.{Left}
 use mathlib.Core.Path.{ap, ◌∙◌}
-use borrow.Author.Rules.{rules}
 use Rattle.handheld.proofs.trachuliem_why_apart.Goals as goal
 
 pub returns : goal.returns

@@ -2,7 +2,6 @@ use Rattle.handheld.specs.Handheld.{length_of}
 use Rattle.sheets.specs.Machines.{Left}
 use mathlib.Core.Path.{ap, ◌∙◌}
 use Prim.Native.Nat.{ℕ}
-use borrow.Author.Rules.{rules}
 use Rattle.handheld.proofs.trachuliem_write_machine.Goals as goal
 
 pub returns : goal.returns

@@ -1,7 +1,5 @@
 use borrow.Author.Rules.{rules}
-use mathlib.Core.Path.{◌≡◌}
-use Prim.Native.Nat.{◌-◌, ◌≤◌}
-use lib.ListN.{length, length-set}
+use lib.ListN.{length-set}
 use Rattle.answers.proofs.areas.fill.Goals as goal
 
 pub loop-i-preserved : goal.loop-i-preserved

@@ -1,8 +1,6 @@
 use borrow.Author.Rules.{rules}
 use native.Mathlib.Omega.{arith}
-use mathlib.Core.Path.{◌≡◌}
-use Prim.Native.Nat.{◌-◌, ◌≤◌}
-use lib.ListN.{length, length-set}
+use lib.ListN.{length-set}
 use Rattle.answers.proofs.areas.put_words.Goals as goal
 
 pub bounds-bytes-i-in-loop-i : goal.bounds-bytes-i-in-loop-i

@@ -1,8 +1,6 @@
-use borrow.Author.Rules.{rules}
-use native.Mathlib.Omega.{arith}
 use mathlib.Core.Path.{◌≡◌}
 use Prim.Native.Nat.{◌-◌, ◌≤◌}
-use lib.ListN.{length, length-set}
+use lib.ListN.{length}
 use Rattle.answers.proofs.areas.put_words.Given as goal
 
 abbrev pub invariant-loop-i : goal.invariant-loop-i

@@ -1,7 +1,6 @@
-use borrow.Author.Rules.{rules}
 use mathlib.Core.Path.{◌≡◌}
 use Prim.Native.Nat.{◌-◌, ◌≤◌}
-use lib.ListN.{length, length-set}
+use lib.ListN.{length}
 use Rattle.answers.proofs.areas.take_words.Given as goal
 
 abbrev pub invariant-loop-i : goal.invariant-loop-i
