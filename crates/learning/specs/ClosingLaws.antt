@@ -8,7 +8,7 @@ use Rattle.rules.specs.Seek.{seek}
 use Rattle.rules.specs.Table.{row, state_of, open_row, close}
 use Rattle.rules.specs.Closing.{Told, Columns, Words, all_snoc, open_told, open_on, open_le, closing_step, closing_stop}
 use Rattle.rules.specs.Round.{lower_bound}
-use Rattle.rules.specs.Links.{machine_classes}
+use Rattle.rules.proofs.Links.{machine_classes}
 use Rattle.machine.specs.Lent.{link, Sound}
 use Rattle.machine.specs.LentLaws.{sound_steps, steps_complete}
 use Rattle.areas.specs.Store.{stored_length}

@@ -12,7 +12,7 @@ use Rattle.rules.specs.Machine.{ask}
 use Rattle.rules.specs.Table.{from, one_letter, row}
 use Rattle.rules.specs.FromLaws.{map_from_snoc}
 use Rattle.rules.specs.Closing.{Short, Told}
-use Rattle.rules.specs.Links.{one_letter_at}
+use Rattle.rules.proofs.Links.{one_letter_at}
 use Rattle.machine.specs.Lent.{link, Sound}
 use Rattle.areas.specs.Store.{stored, stored_length, stored_put, Kept, kept_more}
 use Rattle.learning.specs.Grid.{Filled, cell_of, Holds, holds_columns, Beyond, filled_beyond}

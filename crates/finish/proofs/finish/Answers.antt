@@ -8,7 +8,8 @@ use Rattle.rules.specs.SheetLaws.{rows_most}
 use Rattle.rules.specs.Machine.{lent}
 use Rattle.machine.specs.Lent.{link}
 use Rattle.areas.specs.Store.{stored, stored_length}
-use Rattle.finish.specs.Sheet.{Numbers, numbers, numbers_few, numbers_states, model_bytes, model_length, stored_few, map_length, sheet_length, sheet_written}
+use Rattle.finish.specs.Sheet.{Numbers, model_bytes}
+use Rattle.finish.proofs.Sheet.{numbers, numbers_few, numbers_states, model_length, stored_few, map_length, sheet_length, sheet_written}
 use native.Mathlib.Omega.{arith}
 use mathlib.Core.Path.{◌≡◌, sym, ap, ◌∙◌}
 use Prim.Native.Nat.{ℕ, ◌+◌, ◌*◌, ◌≤◌}

@@ -1,4 +1,4 @@
-use Rattle.finish.specs.Sheet.{numbers_few, mapped_here, mapped_none}
+use Rattle.finish.proofs.Sheet.{numbers_few, mapped_here, mapped_none}
 use native.Mathlib.Omega.{arith}
 use Rattle.finish.proofs.map_state.Goals as goal
 

@@ -1,6 +1,6 @@
 use native.Mathlib.Nat.{div-lt_iff_lt-mul, mod-lt}
 use Rattle.rules.specs.Numbering as numbering
-use Rattle.finish.specs.Sheet.{numbers_few, numbers_low, numbers_place_few, numbers_word}
+use Rattle.finish.proofs.Sheet.{numbers_few, numbers_low, numbers_place_few, numbers_word}
 use native.Mathlib.Omega.{arith}
 use mathlib.Core.Path.{ap, ◌∙◌}
 use Prim.Native.Nat.{ℕ, ◌+◌, ◌*◌, ◌/◌, ◌%◌, ◌<◌, ◌≤◌}

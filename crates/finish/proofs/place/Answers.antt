@@ -1,6 +1,7 @@
 use borrow.Author.Tests.{eq-eqb, ne_eqb}
 use Rattle.rules.specs.Seek.{seek_starts, seek_passes, seek_hits, seek_ends}
-use Rattle.finish.specs.Sheet.{is_at, place_first}
+use Rattle.finish.specs.Sheet.{is_at}
+use Rattle.finish.proofs.Sheet.{place_first}
 use borrow.Author.Rules.{rules}
 use native.Mathlib.Omega.{arith}
 use mathlib.Core.Path.{sym, ◌∙◌}

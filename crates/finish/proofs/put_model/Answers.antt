@@ -6,7 +6,7 @@ use Rattle.rules.specs.SheetLaws.{words_most}
 use Rattle.rules.specs.Records.{start_taken}
 use Rattle.rules.specs.Numbering.{renumbered}
 use Rattle.machine.specs.Lent.{link}
-use Rattle.finish.specs.Sheet.{numbers_few, numbers_size, numbers_states, model_length}
+use Rattle.finish.proofs.Sheet.{numbers_few, numbers_size, numbers_states, model_length}
 use native.Mathlib.Omega.{arith}
 use mathlib.Core.Path.{◌≡◌, sym, ap, ◌∙◌}
 use Prim.Native.Nat.{ℕ, ◌+◌, ◌*◌, ◌≤◌}

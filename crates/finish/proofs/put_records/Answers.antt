@@ -1,7 +1,7 @@
 use Rattle.rules.specs.Areas.{put_none}
 use Rattle.rules.specs.Sheets.{words_bytes}
 use Rattle.areas.specs.Store.{slot, stored}
-use Rattle.finish.specs.Sheet.{slot_room, record_room, record_ends, record_put}
+use Rattle.finish.proofs.Sheet.{slot_room, record_room, record_ends, record_put}
 use borrow.Author.Rules.{rules}
 use native.Mathlib.Omega.{arith}
 use mathlib.Core.Path.{◌≡◌, refl, sym, ap, ◌∙◌}

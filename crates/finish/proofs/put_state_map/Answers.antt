@@ -5,7 +5,8 @@ use Rattle.rules.specs.Machine.{lent}
 use Rattle.machine.specs.Lent.{link}
 use Rattle.machine.specs.LentLaws.{sound_steps, steps_complete}
 use Rattle.areas.specs.Store.{stored}
-use Rattle.finish.specs.Sheet.{mapped, numbered_kept, numbered_few, map_put}
+use Rattle.finish.specs.Sheet.{mapped}
+use Rattle.finish.proofs.Sheet.{numbered_kept, numbered_few, map_put}
 use native.Mathlib.Omega.{arith}
 use mathlib.Core.Path.{ap, ◌∙◌}
 use Prim.Native.Nat.{◌+◌}

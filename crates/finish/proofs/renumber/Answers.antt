@@ -6,7 +6,8 @@ use Rattle.rules.specs.Table.{from}
 use Rattle.rules.specs.FromLaws.{put_from_none, put_from_more}
 use Rattle.rules.specs.Numbering.{renumbered}
 use Rattle.machine.specs.Lent.{link}
-use Rattle.finish.specs.Sheet.{word_of, numbers_words}
+use Rattle.finish.specs.Sheet.{word_of}
+use Rattle.finish.proofs.Sheet.{numbers_words}
 use borrow.Author.Rules.{rules}
 use native.Mathlib.Omega.{arith}
 use mathlib.Core.Path.{◌≡◌, refl, ap, ◌∙◌}

@@ -1,9 +1,9 @@
 use mathlib.Core.List.{List}
 use Rattle.machine.specs.Answers.{checked}
 use Rattle.machine.specs.LentLaws.{lent_sound}
-use Rattle.learning.specs.Outcomes.{taken}
-use Rattle.learning.specs.LearnLaws.{zeroed, zeroed_beyond}
-use Rattle.learning.specs.Leaving.{learn_refuses, learn_left}
+use Rattle.learning.proofs.Outcomes.{taken}
+use Rattle.learning.proofs.LearnLaws.{zeroed, zeroed_beyond}
+use Rattle.learning.proofs.Leaving.{learn_refuses, learn_left}
 use native.Mathlib.Omega.{arith}
 use mathlib.Core.Path.{sym, ap, ◌∙◌}
 use Prim.Native.Nat.{ℕ}

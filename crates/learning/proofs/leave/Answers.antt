@@ -1,6 +1,7 @@
 use mathlib.Core.List.{List}
 use Rattle.rules.specs.Answer.{refused}
-use Rattle.learning.specs.Leaving.{left_by, leave_ten, leave_open, leave_done, leave_cells, leave_short}
+use Rattle.learning.specs.Leaving.{left_by}
+use Rattle.learning.proofs.Leaving.{leave_ten, leave_open, leave_done, leave_cells, leave_short}
 use native.Mathlib.Omega.{arith}
 use mathlib.Core.Path.{refl, ap, ◌∙◌}
 use Prim.Native.Nat.{ℕ}

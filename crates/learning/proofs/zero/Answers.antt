@@ -3,7 +3,7 @@ use lib.ListN.{length-set}
 use Rattle.rules.specs.Areas.{put, zeros, put_start}
 use Rattle.rules.specs.Table.{from}
 use Rattle.rules.specs.FromLaws.{put_from_none, put_from_more}
-use Rattle.learning.specs.LearnLaws.{zeros_from}
+use Rattle.learning.proofs.LearnLaws.{zeros_from}
 use borrow.Author.Rules.{rules}
 use native.Mathlib.Omega.{arith}
 use mathlib.Core.Path.{refl, ap, ◌∙◌}

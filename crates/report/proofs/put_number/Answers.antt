@@ -1,4 +1,4 @@
-use Rattle.text.specs.Decimal.{decimal_short}
+use Rattle.text.proofs.Decimal.{decimal_short}
 use Rattle.report.specs.ReportLaws.{number_short, put_number}
 use Rattle.text.specs.Putting.{put_same}
 use native.Mathlib.Omega.{arith}

@@ -2,7 +2,7 @@ use mathlib.Core.Path.{ap, ◌∙◌}
 use Prim.Native.Nat.{ℕ, ◌+◌}
 use mathlib.Core.List.{List}
 use Rattle.rules.specs.Areas.{put}
-use Rattle.text.specs.Decimal.{spelt}
+use Rattle.text.proofs.Decimal.{spelt}
 use borrow.Author.Rules.{rules}
 use Rattle.text.proofs.put_decimal.Goals as goal
 

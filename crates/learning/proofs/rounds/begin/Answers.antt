@@ -4,7 +4,7 @@ use Rattle.rules.specs.Words.{Word}
 use Rattle.rules.specs.Machine.{ask}
 use Rattle.rules.specs.Table as rules
 use Rattle.rules.specs.Closing.{Told, Columns}
-use Rattle.rules.specs.Links.{one_letter_long}
+use Rattle.rules.proofs.Links.{one_letter_long}
 use Rattle.machine.specs.Lent.{link}
 use Rattle.areas.specs.Store.{Kept}
 use Rattle.learning.specs.Desk.{Desk, words_in, columns_in}

@@ -1,4 +1,4 @@
-use Rattle.sheets.specs.CheckerSteps.{apart_asked, begins, passes, fails, ends}
+use Rattle.sheets.proofs.CheckerSteps.{apart_asked, begins, passes, fails, ends}
 use borrow.Author.Tests.{not-true, not-false}
 use borrow.Author.Rules.{rules}
 use mathlib.Core.Path.{sym, ◌∙◌}

@@ -1,5 +1,6 @@
 use Rattle.sheets.specs.Held.{said}
-use Rattle.sheets.specs.CheckerSteps.{apart_before, begins, passes, fails, ends}
+use Rattle.sheets.specs.CheckerSteps.{apart_before}
+use Rattle.sheets.proofs.CheckerSteps.{begins, passes, fails, ends}
 use Rattle.sheets.specs.Checker.{told_apart}
 use Rattle.machine.specs.Lent.{link}
 use borrow.Author.Tests.{not-true, not-false}

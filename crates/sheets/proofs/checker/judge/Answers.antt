@@ -1,5 +1,5 @@
 use Rattle.sheets.specs.Held.{held, rows_in}
-use Rattle.sheets.specs.CheckerSteps.{judge_refused, judge_other, judge_said}
+use Rattle.sheets.proofs.CheckerSteps.{judge_refused, judge_other, judge_said}
 use lib.Seq.{length-take-le}
 use Rattle.sheets.specs.ProofAnswers.{read_of}
 use Rattle.sheets.specs.ProofParts.{counts}

@@ -1,6 +1,7 @@
 use mathlib.Core.Bool.{true}
 use Rattle.sheets.specs.Held.{said, columns_at, map_is}
-use Rattle.sheets.specs.CheckerSteps.{mapped, reaches_alone, apart_alone, mapping, map_same, judge_same}
+use Rattle.sheets.specs.CheckerSteps.{mapped}
+use Rattle.sheets.proofs.CheckerSteps.{reaches_alone, apart_alone, mapping, map_same, judge_same}
 use Rattle.sheets.specs.Checker.{reaches_all, all_apart, map_holds}
 use Rattle.machine.specs.Lent.{link}
 use mathlib.Core.List.{List}

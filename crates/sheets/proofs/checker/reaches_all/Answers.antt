@@ -1,5 +1,5 @@
 use Rattle.sheets.specs.Held.{said, Here, here_part, reaching_start, reaching_within, reaching_here}
-use Rattle.sheets.specs.CheckerSteps.{reaches_from, begins, passes, fails, ends}
+use Rattle.sheets.proofs.CheckerSteps.{reaches_from, begins, passes, fails, ends}
 use Rattle.sheets.specs.ProofParts.{reaching_place}
 use Rattle.machine.specs.LentLaws.{sound_steps}
 use Rattle.machine.specs.Lent.{link}

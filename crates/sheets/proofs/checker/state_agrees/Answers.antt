@@ -1,4 +1,4 @@
-use Rattle.sheets.specs.CheckerSteps.{has_state, agrees_none, agrees_from, begins, passes, fails, ends}
+use Rattle.sheets.proofs.CheckerSteps.{has_state, agrees_none, agrees_from, begins, passes, fails, ends}
 use borrow.Author.Tests.{not-true, not-false}
 use borrow.Author.Rules.{rules}
 use native.Mathlib.Omega.{arith}

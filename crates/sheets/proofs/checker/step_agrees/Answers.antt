@@ -1,4 +1,4 @@
-use Rattle.sheets.specs.CheckerSteps.{word_in, model_in, next_in, step_is}
+use Rattle.sheets.proofs.CheckerSteps.{word_in, model_in, next_in, step_is}
 use Rattle.rules.specs.Tests.{is_true, is_false}
 use native.Mathlib.Omega.{arith}
 use mathlib.Core.Path.{refl, sym, ◌∙◌}

@@ -1,5 +1,6 @@
 use Rattle.sheets.specs.Held.{said, Here, here_part, columns_many, column_here}
-use Rattle.sheets.specs.CheckerSteps.{tells, told_from, some_here, some_later, some_none}
+use Rattle.sheets.specs.CheckerSteps.{tells}
+use Rattle.sheets.proofs.CheckerSteps.{told_from, some_here, some_later, some_none}
 use Rattle.sheets.specs.ProofParts.{column_place}
 use Rattle.machine.specs.Lent.{link}
 use mathlib.Core.List.{[]}

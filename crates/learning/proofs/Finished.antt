@@ -8,11 +8,12 @@ use Rattle.rules.specs.Search.{walk}
 use Rattle.rules.specs.Machine.{Machine, ask, SmallestModel, ByLeastWords}
 use Rattle.rules.specs.MachineLaws.{walk_low, ask_snoc}
 use Rattle.rules.specs.Table.{conjecture}
-use Rattle.rules.specs.Links.{stopped, at_stop, done_smallest}
+use Rattle.rules.specs.Links.{stopped}
+use Rattle.rules.proofs.Links.{at_stop, done_smallest}
 use Rattle.rules.specs.Numbering.{place, order, renumbered, model_state}
 use Rattle.rules.specs.NumberingLaws.{renumbered_complete, number_of, numbered}
 use Rattle.rules.specs.Same.{Same, words_length, same_walk, same_smallest, same_numbered, read_back}
-use Rattle.rules.specs.Smallest.{Tells, one_for_each}
+use Rattle.rules.proofs.Smallest.{Tells, one_for_each}
 use Rattle.rules.specs.StateMap.{Unreached, map_length, reaching_short, renumbered_smallest, renumbered_states, map_at, state_placed, state_unreached}
 use Rattle.rules.specs.Sheets.{Proof, proof_bytes}
 use Rattle.rules.specs.ProofLength.{proof_most}

@@ -14,9 +14,10 @@ use Rattle.rules.specs.Machine.{Machine, Complete, answer_from, last_from, ask, 
 use Rattle.rules.specs.MachineLaws.{walk_low, last_append, last_any, ask_snoc, equal_asks, answers_last}
 use Rattle.rules.specs.Table.{cells, move, conjecture}
 use Rattle.rules.specs.Closing.{Told, Words, Columns, cells_ext, cells_at, told_place, state_same}
-use Rattle.rules.specs.Stages.{Stage}
+use Rattle.rules.proofs.Stages.{Stage}
 use Rattle.rules.specs.DifferenceLaws.{agrees_none}
-use Rattle.rules.specs.Links.{counterexample, stopped, conjecture_complete, at_stop, rounds_enough, done_smallest}
+use Rattle.rules.specs.Links.{counterexample, stopped}
+use Rattle.rules.proofs.Links.{conjecture_complete, at_stop, rounds_enough, done_smallest}
 
 -- m different numbers below m: each number below m is among them
 pub onto : (m : ℕ) (f : ℕ → ℕ) → ((i : ℕ) → i < m → f i < m) → ((i j : ℕ) → i < j → j < m → f i ≢ f j) → (t : ℕ) → t < m → Least (λ i. f i ≡ t) m

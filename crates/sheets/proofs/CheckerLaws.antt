@@ -13,8 +13,8 @@ use Rattle.rules.specs.Search.{walk}
 use Rattle.rules.specs.Machine.{Machine, Complete, lent, answer_from, answer, last_from, ask, Equal, SmallestModel}
 use Rattle.rules.specs.Closing.{Told, cells_at}
 use Rattle.rules.specs.Round.{lower_bound}
-use Rattle.rules.specs.Links.{machine_classes}
-use Rattle.rules.specs.Smallest.{after}
+use Rattle.rules.proofs.Links.{machine_classes}
+use Rattle.rules.proofs.Smallest.{after}
 use Rattle.rules.specs.Answer.{gives}
 use Rattle.rules.specs.Sheets.{Proof}
 use Rattle.machine.specs.Lent.{next_below}

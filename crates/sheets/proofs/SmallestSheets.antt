@@ -14,7 +14,7 @@ use Rattle.rules.specs.MachineLaws.{walk_low}
 use Rattle.rules.specs.Listed.{Listed, listed}
 use Rattle.rules.specs.Links.{stopped}
 use Rattle.rules.specs.Same.{Same, words_length, words_at, read_back, same_walk, same_smallest}
-use Rattle.rules.specs.Smallest.{after_letter, each_reached, one_state, one_for_each, outputs}
+use Rattle.rules.proofs.Smallest.{after_letter, each_reached, one_state, one_for_each, outputs}
 use Rattle.rules.specs.StateMap.{renumbered_smallest, Reached, Unreached, reached_or_not}
 use Rattle.rules.specs.Answer.{gives}
 use Rattle.rules.specs.Sheets.{Proof, words_of}
@@ -24,11 +24,11 @@ use Rattle.learning.specs.Learner.{finished}
 use Rattle.learning.specs.Proper.{Proper}
 use Rattle.learning.specs.Bounds.{stop_bounds}
 use Rattle.finish.specs.Sheet.{numbered_sheet}
-use Rattle.learning.specs.Finished.{Entries, tells, smallest, entries, sheet_of}
+use Rattle.learning.proofs.Finished.{Entries, tells, smallest, entries, sheet_of}
 use Rattle.sheets.specs.Proofs.{map_byte}
 use Rattle.sheets.specs.Checker.{model_of, model_state, judge}
 use Rattle.sheets.specs.Seen.{Seen}
-use Rattle.sheets.specs.CheckerLaws.{or_true, Step, Accepted, judged}
+use Rattle.sheets.proofs.CheckerLaws.{or_true, Step, Accepted, judged}
 
 -- within a list it does not matter what stands for none
 any_default : (l : List ℕ) (i d e : ℕ) → i < length l → get_or l i d ≡ get_or l i e

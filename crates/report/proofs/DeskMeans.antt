@@ -11,7 +11,7 @@ use Rattle.rules.specs.Areas.{zeros}
 use Rattle.rules.specs.Answer.{Answer, refused, gives}
 use Rattle.machine.specs.Lent.{link, lent_check}
 use Rattle.learning.specs.Learner.{table_size, sheet_size, learn}
-use Rattle.learning.specs.Finished.{sheet_of, model_on}
+use Rattle.learning.proofs.Finished.{sheet_of, model_on}
 use Rattle.sheets.specs.Reading.{Parsed, bad, good}
 use Rattle.sheets.specs.Machines.{Sheet, Left, machine_sheet}
 use Rattle.sheets.specs.MachineSteps.{sheet_were}
@@ -19,7 +19,7 @@ use Rattle.sheets.specs.MachineLaws.{written_reads}
 use Rattle.sheets.specs.Proofs.{Counts, proof_sheet}
 use Rattle.sheets.specs.Places.{laid}
 use Rattle.sheets.specs.Checker.{model_of, check}
-use Rattle.sheets.specs.Demand3 as checker
+use Rattle.sheets.proofs.Demand3 as checker
 use Rattle.report.specs.Desk.{accepted, machine_refused, judged, verdict, length_of, sending, send}
 use Rattle.report.specs.Reading.{sheet_refused, sheet_read, sheet_words, always_done}
 use Rattle.report.specs.DeskLaws.{machine_refused_is, proof_judged, learnt_sent}

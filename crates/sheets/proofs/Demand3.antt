@@ -7,7 +7,7 @@ use mathlib.Core.List.{List, []}
 use Rattle.std.proofs.Math.Seq.{take-append_seam}
 use Rattle.rules.specs.Words.{Word, Below}
 use Rattle.rules.specs.Machine.{Machine, Complete, lent, answer, SmallestModel}
-use Rattle.rules.specs.Links.{rounds_enough}
+use Rattle.rules.proofs.Links.{rounds_enough}
 use Rattle.rules.specs.Same.{Same}
 use Rattle.rules.specs.Sheets.{Proof, proof_bytes}
 use Rattle.rules.specs.Areas.{over}
@@ -15,19 +15,19 @@ use Rattle.rules.specs.Answer.{Answer, refused, gives}
 use Rattle.machine.specs.Lent.{link, lent_check}
 use Rattle.machine.specs.LentLaws.{both, lent_sound}
 use Rattle.learning.specs.Learner.{Counts, done, learn_check, learn_leaves, learn}
-use Rattle.learning.specs.Outcomes.{taken, at_done, ended}
+use Rattle.learning.proofs.Outcomes.{taken, at_done, ended}
 use Rattle.learning.specs.Proper.{Proper, sound_proper}
-use Rattle.learning.specs.Finished.{sheet_of}
-use Rattle.learning.specs.Demand2.{done_sheet, done_bytes}
+use Rattle.learning.proofs.Finished.{sheet_of}
+use Rattle.learning.proofs.Demand2.{done_sheet, done_bytes}
 use Rattle.sheets.specs.Reading.{Parsed, bad, good}
 use Rattle.sheets.specs.Proofs.{proof_sheet}
 use Rattle.sheets.specs.ProofLaws.{read_ends}
 use Rattle.sheets.specs.Checker.{model_of, judge, judge_sheet, check}
 use Rattle.sheets.specs.Seen.{Seen}
 use Rattle.sheets.specs.SeenLaws.{read_seen, seen_reads, seen_bytes, seen_most}
-use Rattle.sheets.specs.CheckerLaws as laws
-use Rattle.sheets.specs.CheckerLaws.{Accepted, judged}
-use Rattle.sheets.specs.SmallestSheets.{learner_seen, learner_judged, any_judged}
+use Rattle.sheets.proofs.CheckerLaws as laws
+use Rattle.sheets.proofs.CheckerLaws.{Accepted, judged}
+use Rattle.sheets.proofs.SmallestSheets.{learner_seen, learner_judged, any_judged}
 
 proper : (n k : ℕ) (words : List ℕ) → lent_check n k words ≡ gives tt → Proper k (link n k words)
 proper n k words t = sound_proper (lent_sound n k words t)
