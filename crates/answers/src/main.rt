@@ -36,7 +36,7 @@
 
 ghost use Rattle.std.specs.Prelude.{◌≡◌, ◌*◌, ◌≤◌, length};
 
-mod areas;
+mod lent;
 
 use apart::Why;
 use learning::Learnt;
@@ -50,14 +50,14 @@ use sheets::{checker, machines, proofs};
 fn say(kind: u8, a: usize, b: usize, c: usize, d: usize) -> bool {
     let answer = [
         kind,
-        areas::low(a),
-        areas::high(a),
-        areas::low(b),
-        areas::high(b),
-        areas::low(c),
-        areas::high(c),
-        areas::low(d),
-        areas::high(d),
+        lent::low(a),
+        lent::high(a),
+        lent::low(b),
+        lent::high(b),
+        lent::low(c),
+        lent::high(c),
+        lent::low(d),
+        lent::high(d),
     ];
     io::write_all(1, &answer)
 }
@@ -70,12 +70,12 @@ fn say_refused(r: Refusal) -> bool {
 fn read_machine_into(sheet: &[u8], words: &mut [u16], seed: u8) -> bool
     requires { length words.old ≤ 600 }
 {
-    areas::fill_words(words, 0, seed);
+    lent::fill_words(words, 0, seed);
     let said = match machines::read(sheet, words) {
         MachineRead::Read { n, k } => say(1, n, k, 0, 0),
         MachineRead::Refused(r) => say_refused(r),
     };
-    said && areas::write_words(words)
+    said && lent::write_words(words)
 }
 
 fn read_machine(sheet: &[u8], seed: u8, size: usize) -> bool {
@@ -88,7 +88,7 @@ fn read_machine(sheet: &[u8], seed: u8, size: usize) -> bool {
 
 // Writing a machine sheet, into an area that is lent as its part of the buffer.
 fn write_machine_into(words: &[u16], n: usize, k: usize, sheet: &mut [u8], seed: u8) -> bool {
-    areas::fill(sheet, 0, seed);
+    lent::fill(sheet, 0, seed);
     let said = match machines::write(words, n, k, sheet) {
         MachineWritten::Written(length) => say(1, length, 0, 0, 0),
         MachineWritten::Refused(r) => say_refused(r),
@@ -141,8 +141,8 @@ fn learn_into(
     sheet: &mut [u8],
     seed: u8,
 ) -> bool {
-    areas::fill(table, 0, seed);
-    areas::fill(sheet, 1, seed);
+    lent::fill(table, 0, seed);
+    lent::fill(sheet, 1, seed);
     let said = match learning::learn(words, n, k, limit, most, table, sheet) {
         Learnt::Done {
             states,
@@ -162,10 +162,10 @@ fn learn_into(
 }
 
 fn learn(words: &[u16], n: usize, k: usize, head: &[u8; 18]) -> bool {
-    let limit = areas::number(head[6], head[7]);
-    let most = areas::number(head[8], head[9]);
-    let size = areas::number(head[10], head[11]);
-    let length = areas::number(head[12], head[13]);
+    let limit = lent::number(head[6], head[7]);
+    let most = lent::number(head[8], head[9]);
+    let size = lent::number(head[10], head[11]);
+    let length = lent::number(head[12], head[13]);
     if 36000 < size {
         return false;
     }
@@ -196,7 +196,7 @@ fn why_into(
     area: &mut [u8],
     seed: u8,
 ) -> bool {
-    areas::fill(area, 0, seed);
+    lent::fill(area, 0, seed);
     let said = match apart::why_apart(words, n, k, s, t, area) {
         Why::Told {
             length,
@@ -210,9 +210,9 @@ fn why_into(
 }
 
 fn why(words: &[u16], n: usize, k: usize, head: &[u8; 18]) -> bool {
-    let s = areas::number(head[6], head[7]);
-    let t = areas::number(head[8], head[9]);
-    let size = areas::number(head[10], head[11]);
+    let s = lent::number(head[6], head[7]);
+    let t = lent::number(head[8], head[9]);
+    let size = lent::number(head[10], head[11]);
     if 100 < size {
         return false;
     }
@@ -224,11 +224,11 @@ fn why(words: &[u16], n: usize, k: usize, head: &[u8; 18]) -> bool {
 fn answer_words(head: &[u8; 18], bytes: &[u8], second: &[u8], words: &mut [u16]) -> bool
     requires { length words.old * 2 ≤ length bytes.now }
 {
-    areas::take_words(words, bytes);
-    let n = areas::number(head[2], head[3]);
-    let k = areas::number(head[4], head[5]);
+    lent::take_words(words, bytes);
+    let n = lent::number(head[2], head[3]);
+    let k = lent::number(head[4], head[5]);
     match head[0] {
-        2 => write_machine(words, n, k, head[1], areas::number(head[10], head[11])),
+        2 => write_machine(words, n, k, head[1], lent::number(head[10], head[11])),
         5 => question(words, n, k, second),
         6 => learn(words, n, k, head),
         7 => check(words, n, k, second),
@@ -249,9 +249,9 @@ fn answer_machine(head: &[u8; 18], first: &[u8], second: &[u8]) -> bool {
 // Has a case answered, and says whether that was done. The head is all that comes before the inputs.
 fn answer(head: &[u8; 18], first: &[u8], second: &[u8]) -> bool {
     match head[0] {
-        1 => read_machine(first, head[1], areas::number(head[10], head[11])),
+        1 => read_machine(first, head[1], lent::number(head[10], head[11])),
         3 => read_proof(first),
-        4 => aw_record(first, areas::number(head[2], head[3])),
+        4 => aw_record(first, lent::number(head[2], head[3])),
         _ => answer_machine(head, first, second),
     }
 }
@@ -293,8 +293,8 @@ fn answer_case() -> bool {
     if io::read_full(0, &mut head) < 18 {
         return false;
     }
-    let first = areas::number(head[14], head[15]);
-    let size = first + areas::number(head[16], head[17]);
+    let first = lent::number(head[14], head[15]);
+    let size = first + lent::number(head[16], head[17]);
     if 16384 < size {
         return false;
     }

@@ -1,5 +1,5 @@
 -- The finished proof sheet as the code writes it, part by part, from the conjecture as lent words and the columns kept in slots.
-use Rattle.std.specs.Prelude.{◌≡◌, Bool, true, false, ℕ, suc, ◌+◌, ◌*◌, ◌/◌, ◌%◌, ◌≤◌, ◌<◌, length, take, eqb, ltb}
+use Rattle.std.specs.Prelude.{◌≡◌, ℕ, suc, ◌+◌, ◌*◌, ◌/◌, ◌%◌, ◌≤◌, ◌<◌, length, take, eqb}
 use Rattle.std.proofs.Math.Path.{refl, ap}
 use Rattle.std.proofs.Common.{sym, ap₂, ◌∙◌, subst, div-lt_iff_lt-mul, suc-mul, mul-le-mul_right, arith, length-take, get_or-take, length-take-le}
 use mathlib.Core.List.{List, [], ◌∷◌, ◌++◌, map, append_assoc}
@@ -15,7 +15,7 @@ use Rattle.rules.specs.Table.{from}
 use Rattle.rules.specs.Closing.{Words}
 use Rattle.rules.specs.FromLaws.{map_from_length}
 use Rattle.rules.specs.Areas.{put, put_put}
-use Rattle.rules.specs.Sheets.{PH, AW, CW, SM, Proof, proof_bytes, row_bytes, word_bytes, words_bytes, words_of}
+use Rattle.rules.specs.Sheets.{PH, AW, CW, SM, Proof, proof_bytes, word_bytes, words_bytes, words_of}
 use Rattle.rules.specs.SheetLaws.{rows_length, room}
 use Rattle.rules.specs.Records.{words_few, words_more_length, put_words_more}
 use Rattle.rules.specs.Numbering.{place, reached, order, reaching_words, renumbered, model_state, state_map}

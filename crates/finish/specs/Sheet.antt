@@ -4,8 +4,7 @@ use mathlib.Core.List.{List, [], ◌∷◌}
 use Rattle.std.proofs.Math.ListN.{get_or}
 use Rattle.rules.specs.Words.{Word}
 use Rattle.rules.specs.Search.{walk}
-use Rattle.rules.specs.Machine.{Machine, lent}
-use Rattle.rules.specs.Table.{from}
+use Rattle.rules.specs.Machine.{Machine}
 use Rattle.rules.specs.Sheets.{Proof, row_bytes, words_of}
 use Rattle.rules.specs.Numbering.{place, order, reaching_words, renumbered, state_map}
 use Rattle.machine.specs.Lent.{link, Steps}

@@ -1,23 +1,22 @@
 -- Links, the machines of document 01: rules 1 to 6 with a machine's answers for the oracle, and what the stop means for the machine.
-use Rattle.std.specs.Prelude.{◌≡◌, refl, ◌⊎◌, ◌≢◌, ℕ, zero, suc, ◌+◌, ◌*◌, ◌-◌, ◌≤◌, ◌<◌, get_or, take, drop}
+use Rattle.std.specs.Prelude.{◌≡◌, refl, ◌≢◌, ℕ, suc, ◌+◌, ◌-◌, ◌≤◌, ◌<◌, get_or}
 use Rattle.std.proofs.Math.Path.{sym, ap, ap₂, subst}
-use Rattle.std.proofs.Common.{◌∙◌, inl, inr, arith}
-use Rattle.std.proofs.Math.Option.{Option, none, some}
+use Rattle.std.proofs.Common.{◌∙◌, arith}
+use Rattle.std.proofs.Math.Option.{none, some}
 use mathlib.Core.List.{List, [], ◌∷◌, ◌++◌}
 use Rattle.std.proofs.Math.ListN.{length, length-append}
 use Rattle.std.proofs.Math.Seq.{take-append_seam, drop-append_seam}
-use Rattle.rules.specs.Words.{Word, Below, below_append, below_take, below_at, snoc_of}
-use Rattle.rules.specs.Search.{walk, walk_append}
-use Rattle.rules.specs.Machine.{Machine, Complete, answer_from, answer, last_from, ask, Equal, SmallestModel}
-use Rattle.rules.specs.MachineLaws.{walk_low, last_append, last_any, ask_snoc, equal_asks, asks_equal}
+use Rattle.rules.specs.Words.{Word, Below, below_append}
+use Rattle.rules.specs.Search.{walk}
+use Rattle.rules.specs.Machine.{Machine, Complete, answer, last_from, ask, Equal, SmallestModel}
+use Rattle.rules.specs.MachineLaws.{walk_low, last_append, last_any, ask_snoc, equal_asks}
 use Rattle.rules.specs.Table.{one_letter, close, move, conjecture, swapped}
 use Rattle.rules.specs.FromLaws.{map_from_length, map_from_at}
-use Rattle.rules.specs.Closing.{Words, Columns, Shut}
+use Rattle.rules.specs.Closing.{Words, Columns}
 use Rattle.rules.specs.Round.{guess, Classes, lower_bound}
-use Rattle.rules.specs.Rounds.{Stop, rounds, learned}
-use Rattle.rules.proofs.Stages.{Stage, first_stage, Stopped, stops, enough, own_classes}
-use Rattle.rules.specs.Difference.{difference}
-use Rattle.rules.specs.DifferenceLaws.{Apart, found, agree, none_agrees, agrees_none}
+use Rattle.rules.specs.Rounds.{learned}
+use Rattle.rules.proofs.Stages.{Stage, first_stage, Stopped, stops, enough}
+use Rattle.rules.specs.DifferenceLaws.{Apart, found, none_agrees}
 use Rattle.rules.specs.Links.{counterexample, stopped}
 
 -- ---- from machines to classes

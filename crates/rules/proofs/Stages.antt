@@ -6,7 +6,7 @@ use Rattle.std.proofs.Common.{sym, ap, ap₂, ◌∙◌, not-suc-le-zero, le_of_
 use Rattle.std.proofs.Math.Logic.{inl, inr}
 use Rattle.std.proofs.Math.Option.{Option, none, some}
 use mathlib.Core.List.{List, [], ◌∷◌, ◌++◌}
-use Prim.Native.Nat.{ℕ, zero, suc, ◌+◌, ◌*◌, ◌-◌, ◌≤◌, ◌<◌}
+use Prim.Native.Nat.{ℕ, zero, suc, ◌+◌, ◌-◌, ◌≤◌, ◌<◌}
 use native.Mathlib.Omega.{arith}
 use Rattle.std.proofs.Math.ListN.{length, length-append, get_or-append}
 use Rattle.std.proofs.Math.Seq.{take-append-add, drop-append-add}
@@ -14,8 +14,8 @@ use Rattle.rules.specs.Words.{Word, Below, below_append}
 use Rattle.rules.specs.Search.{walk, walk_append}
 use Rattle.rules.specs.Table.{close, Closes, move, swapped, suffix}
 use Rattle.rules.specs.Closing.{Told, Shut, Words, Columns, Short, all_snoc, told_more, closing_told, closing_words, closing_short, closing_grows, closing_ends, closes_shut, closes_long, open_grows}
-use Rattle.rules.specs.Round.{guess, Opened, round, reach_low, suffix_long, suffix_below, Classes, lower_bound}
-use Rattle.rules.specs.Rounds.{Stop, more, rounds, learned}
+use Rattle.rules.specs.Round.{guess, round, reach_low, suffix_long, suffix_below, Classes, lower_bound}
+use Rattle.rules.specs.Rounds.{Stop, more, rounds}
 
 -- what holds of a closed table after p rounds; `first` columns stood there before them
 pub record Stage (ask : Word → ℕ) (k τ first p : ℕ) (E S : List Word) : Type 0 where

@@ -1,10 +1,9 @@
 -- A machine beside one that stays in its single state: the pairs are its own states, and the search over pairs is the search over them.
-use Rattle.std.specs.Prelude.{◌≡◌, List, ℕ, ◌+◌, ◌*◌, ◌/◌, ◌%◌, eqb}
-use Rattle.std.proofs.Common.{ap, ap₂, ◌∙◌, mul-one}
+use Rattle.std.specs.Prelude.{◌≡◌, ℕ, ◌+◌, ◌*◌}
+use Rattle.std.proofs.Common.{mul-one}
 use Rattle.std.proofs.Math.Path.{fun_ext}
 use Rattle.std.proofs.Math.Nat.{div-one, mod-one}
 use native.Mathlib.Omega.{arith}
-use Rattle.rules.specs.Search.{Entry, explore}
 use Rattle.rules.specs.Machine.{Machine}
 use Rattle.rules.specs.Difference.{pair_step, pairs}
 use Rattle.rules.specs.Numbering.{reached}

@@ -1,5 +1,5 @@
 -- Lent areas: bytes (or words) that are written at a place, and the rest as it was.
-use Rattle.std.specs.Prelude.{◌≡◌, refl, List, [], ◌∷◌, ◌++◌, ℕ, suc, ◌+◌, ◌-◌, ◌≤◌, ◌<◌, take, set, replicate}
+use Rattle.std.specs.Prelude.{◌≡◌, List, [], ◌∷◌, ◌++◌, ℕ, suc, ◌+◌, ◌-◌, ◌≤◌, ◌<◌, take, set, replicate}
 use Rattle.std.proofs.Common.{sym, ap₂, ◌∙◌, append_assoc, append-nil, length-append, length-take, length-drop, take-append-drop, drop_of_length-le, take_at, drop_at, drop-drop, length-take-le, ext_get_or, take_all}
 use Rattle.std.proofs.Math.Path.{ap}
 use native.Mathlib.Omega.{arith}

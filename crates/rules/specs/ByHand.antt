@@ -1,10 +1,9 @@
 -- M1 by hand, over the definitions of this crate: the words, the columns, the round and its counterexample, computed.
 use Rattle.std.specs.Prelude.{◌≡◌, refl, List, [], ◌∷◌, map, ℕ}
-use Rattle.std.proofs.Math.Option.{Option, none, some}
+use Rattle.std.proofs.Math.Option.{none, some}
 use Rattle.rules.specs.Words.{Word}
 use Rattle.rules.specs.Machine.{Machine, lent, ask}
 use Rattle.rules.specs.Table.{from, one_letter, row, cells, suffix}
-use Rattle.rules.specs.Rounds.{Stop}
 use Rattle.rules.specs.Numbering.{reaching_words, state_map}
 use Rattle.rules.specs.Table.{conjecture}
 use Rattle.rules.specs.Links.{counterexample, stopped}

@@ -9,13 +9,13 @@ use Prim.Native.Nat.{ℕ, zero, suc, ◌+◌, ◌*◌, ◌-◌, ◌/◌, ◌%◌
 use Rattle.std.proofs.Math.Nat.{mul-zero}
 use native.Mathlib.Omega.{arith}
 use Rattle.std.proofs.Math.ListN.{length, length-append, length-map, get_or-append}
-use Rattle.std.proofs.Math.Seq.{get_or-append_seam, append_snoc}
+use Rattle.std.proofs.Math.Seq.{get_or-append_seam}
 use Rattle.std.proofs.Math.Arith.{digits_div, digits_mod, digits_lt}
 use Rattle.std.proofs.Math.Dec.{eqb, ltb}
 use Rattle.rules.specs.Least.{split}
 use Rattle.rules.specs.Words.{Word, Below, below_append}
 use Rattle.rules.specs.Tests.{eqs, eqs_true, eqs_false, eqb_true, eqb_false, eqb_same, is_false, ltb_yes, ltb_no, lt_yes, lt_no}
-use Rattle.rules.specs.Seek.{seek, Sought, sought, seek_is, seek_skip}
+use Rattle.rules.specs.Seek.{seek, sought, seek_is, seek_skip}
 use Rattle.rules.specs.Table.{row, cells, state_of, open_row, close, Closes, shut, append, move}
 
 -- ---- statements

@@ -1,11 +1,11 @@
 -- Rule 5: `difference` is the least word that two states answer differently, and none exactly where no word does.
-use Rattle.std.specs.Prelude.{◌≡◌, ◌⊎◌, ◌≢◌, Bool, true, false, length, take, drop, ltb}
+use Rattle.std.specs.Prelude.{◌≡◌, ◌⊎◌, ◌≢◌, true, false, length, take, drop, ltb}
 use Rattle.std.proofs.Math.Path.{refl, ap, ap₂}
-use Rattle.std.proofs.Common.{sym, ◌∙◌, subst, inl, inr, not-suc-le-zero, le_of_suc-le-suc, eq-or-lt_of_le, arith, take-append-drop, length-append, take-suc}
+use Rattle.std.proofs.Common.{sym, ◌∙◌, subst, inl, inr, arith, take-append-drop, take-suc}
 use Rattle.std.proofs.Math.Bool.{not}
 use Rattle.std.proofs.Math.Option.{Option, none, some}
 use mathlib.Core.List.{List, [], ◌∷◌, ◌++◌, List-discrete}
-use Prim.Native.Nat.{ℕ, zero, suc, ◌+◌, ◌*◌, ◌/◌, ◌%◌, ◌≤◌, ◌<◌}
+use Prim.Native.Nat.{ℕ, suc, ◌+◌, ◌*◌, ◌/◌, ◌%◌, ◌≤◌, ◌<◌}
 use Rattle.std.proofs.Math.Decide.{ℕ_discrete}
 use Rattle.std.proofs.Math.ListN.{get_or}
 use Rattle.std.proofs.Math.Seq.{get_or-append_seam}
@@ -13,10 +13,10 @@ use Rattle.std.proofs.Math.Arith.{digits_div, digits_mod, digits_lt}
 use Rattle.std.proofs.Math.Dec.{eqb}
 use Rattle.rules.specs.Least.{stable}
 use Rattle.rules.specs.Lengths.{least_short, shorter, shorter_alone}
-use Rattle.rules.specs.Tests.{outcome, eqb_true, eqb_false, is_false, not-true, not-false, ltb_yes, ltb_no, lt_yes, lt_no}
-use Rattle.rules.specs.Words.{Word, Below, Before, LeastWord, code, code_append, code_le, before_code, code_before, below_append, below_take, below_drop, below_at}
-use Rattle.rules.specs.Seek.{seek, Sought, sought}
-use Rattle.rules.specs.Search.{Entry, starts, walk, walk_append, explore, Explored}
+use Rattle.rules.specs.Tests.{outcome, eqb_true, eqb_false, is_false, not-true, not-false, ltb_yes, ltb_no}
+use Rattle.rules.specs.Words.{Word, Below, code, code_append, code_le, before_code, below_append, below_take, below_drop, below_at}
+use Rattle.rules.specs.Seek.{sought}
+use Rattle.rules.specs.Search.{Entry, starts, walk, Explored}
 use Rattle.rules.specs.SearchLaws as search
 use Rattle.rules.specs.Machine.{Machine, Complete, answer_from}
 use Rattle.rules.specs.MachineLaws.{walk_low, answer_append, answer_length}

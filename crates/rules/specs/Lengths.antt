@@ -16,7 +16,7 @@ use Rattle.rules.specs.Machine.{Machine, Complete}
 use Rattle.rules.specs.MachineLaws.{walk_low}
 use Rattle.rules.specs.Table.{from}
 use Rattle.rules.specs.FromLaws.{map_from_same}
-use Rattle.rules.specs.Telling.{Telling, bound}
+use Rattle.rules.specs.Telling.{bound}
 
 abbrev either : {A : Type 0} → Bool → A → A → A
 either true x y = x

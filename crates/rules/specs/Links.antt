@@ -5,7 +5,7 @@ use mathlib.Core.List.{List}
 use Rattle.rules.specs.Words.{Word}
 use Rattle.rules.specs.Machine.{Machine, ask}
 use Rattle.rules.specs.Table.{one_letter, conjecture}
-use Rattle.rules.specs.Rounds.{Stop, rounds, learned}
+use Rattle.rules.specs.Rounds.{Stop, learned}
 use Rattle.rules.specs.Difference.{difference}
 
 -- rule 5: the least word on which machine and conjecture differ

@@ -1,12 +1,12 @@
 -- The model handed out is numbered by the least word reaching each state: the conjecture's states in the order of a breadth first
 -- search. The state map gives each machine state the number of the model state that its least word reaches.
-use Rattle.std.specs.Prelude.{◌≡◌, true, false, ℕ, zero, suc, ◌+◌, ◌*◌, get_or, ltb}
-use mathlib.Core.List.{List, [], ◌∷◌, ◌++◌, map}
+use Rattle.std.specs.Prelude.{true, false, ℕ, get_or, ltb}
+use mathlib.Core.List.{List, [], map}
 use Rattle.std.proofs.Math.ListN.{length}
 use Rattle.std.proofs.Math.Dec.{eqb}
 use Rattle.rules.specs.Words.{Word}
 use Rattle.rules.specs.Seek.{seek}
-use Rattle.rules.specs.Search.{Entry, starts, walk, explore}
+use Rattle.rules.specs.Search.{Entry, walk, explore}
 use Rattle.rules.specs.Machine.{Machine}
 use Rattle.rules.specs.Table.{from}
 

@@ -1,15 +1,15 @@
 -- A machine numbered anew by least words: it is complete, it answers as before, and its numbers are those of the least words.
-use Rattle.std.specs.Prelude.{◌≡◌, ◌≢◌, Bool, true, false, ℕ, zero, suc, ◌+◌, ◌≤◌, ◌<◌}
+use Rattle.std.specs.Prelude.{◌≡◌, true, false, ℕ, ◌<◌}
 use Rattle.std.proofs.Math.Path.{refl, sym, ap}
-use Rattle.std.proofs.Common.{ap₂, ◌∙◌, subst, true≢false, arith}
-use mathlib.Core.List.{List, [], ◌∷◌, ◌++◌, map}
+use Rattle.std.proofs.Common.{◌∙◌, true≢false, arith}
+use mathlib.Core.List.{List, [], ◌∷◌, ◌++◌}
 use Rattle.std.proofs.Math.Decide.{dec_lt}
 use Rattle.std.proofs.Math.ListN.{length, get_or, length-map, get_or-map}
 use Rattle.std.proofs.Math.Dec.{eqb}
 use Rattle.rules.specs.Tests.{eqb_true, eqb_false, eqb_same}
-use Rattle.rules.specs.Words.{Word, Below, Before, code, before_code, code_before, below_append}
-use Rattle.rules.specs.Seek.{seek, Sought, sought}
-use Rattle.rules.specs.Search.{Entry, starts, walk, walk_append, explore, Covered, Explored}
+use Rattle.rules.specs.Words.{Word, Below, code, before_code, code_before, below_append}
+use Rattle.rules.specs.Seek.{sought}
+use Rattle.rules.specs.Search.{Entry, starts, walk, walk_append, Explored}
 use Rattle.rules.specs.SearchLaws as search
 use Rattle.rules.specs.Machine.{Machine, Complete, answer_from, answer, Equal, ByLeastWords}
 use Rattle.rules.specs.MachineLaws.{walk_low}

@@ -1,11 +1,11 @@
 -- Rule 6 (Rivest and Schapire): a word on which oracle and conjecture differ gives a suffix that opens a row, so each round adds a word.
 -- And the lower bound: whatever answers as the oracle does has at least as many states as S has words.
-use Rattle.std.specs.Prelude.{◌≡◌, refl, ◌≢◌, take, eqb}
+use Rattle.std.specs.Prelude.{◌≡◌, ◌≢◌, take, eqb}
 use Rattle.std.proofs.Math.Path.{sym, ap}
 use Rattle.std.proofs.Common.{◌∙◌, subst, drop-cons, take-suc}
 use Rattle.std.proofs.Math.Bool.{not}
 use mathlib.Core.List.{List, [], ◌∷◌, ◌++◌}
-use Prim.Native.Nat.{ℕ, suc, ◌+◌, ◌*◌, ◌-◌, ◌≤◌, ◌<◌}
+use Prim.Native.Nat.{ℕ, suc, ◌-◌, ◌≤◌, ◌<◌}
 use Rattle.std.proofs.Math.Decide.{ℕ_discrete}
 use native.Mathlib.Omega.{arith}
 use Rattle.std.proofs.Math.ListN.{length, get_or, drop, length-drop}
@@ -13,7 +13,7 @@ use Rattle.std.proofs.Math.Seq.{append_snoc}
 use Rattle.rules.specs.Least.{turn, stable, at_most}
 use Rattle.rules.specs.Tests.{is_true, is_false}
 use Rattle.rules.specs.Words.{Word, Below, below_at, below_take, below_drop}
-use Rattle.rules.specs.Seek.{seek, seek_is}
+use Rattle.rules.specs.Seek.{seek_is}
 use Rattle.rules.specs.Search.{walk, walk_append}
 use Rattle.rules.specs.MachineLaws.{walk_low}
 use Rattle.rules.specs.Table.{cells, state_of, move, swapped, cut, suffix}

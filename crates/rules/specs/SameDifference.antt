@@ -1,6 +1,6 @@
 -- The least difference does not depend on how a machine is coded: machines that are the same at their states and letters have the same.
-use Rattle.std.specs.Prelude.{◌≡◌, refl, List, ℕ, ◌<◌}
-use Rattle.std.proofs.Common.{sym, ap, ◌∙◌, subst, arith}
+use Rattle.std.specs.Prelude.{◌≡◌, refl, ℕ, ◌<◌}
+use Rattle.std.proofs.Common.{sym, ap, ◌∙◌, arith}
 use Rattle.std.proofs.Math.Option.{Option, none, some}
 use Rattle.rules.specs.Words.{Word, Below, Three, earlier, equal, later, three}
 use Rattle.rules.specs.Machine.{Machine, Complete, answer_from}

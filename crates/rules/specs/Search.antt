@@ -3,8 +3,8 @@
 -- numbering by least words and the reachable states.
 use Rattle.std.specs.Prelude.{◌≡◌, refl, ◌≢◌, Bool, List, [], ◌∷◌, ◌++◌, length, get_or, ltb}
 use Rattle.std.proofs.Math.Bool.{true, false}
-use Prim.Native.Nat.{ℕ, zero, suc, ◌+◌, ◌≤◌, ◌<◌}
-use Rattle.rules.specs.Words.{Word, Below, Before, code}
+use Prim.Native.Nat.{ℕ, zero, suc, ◌≤◌, ◌<◌}
+use Rattle.rules.specs.Words.{Word, Below, code}
 
 -- the node that a word leads to
 abbrev pub walk : {X : Type 0} → (X → ℕ → X) → X → Word → X

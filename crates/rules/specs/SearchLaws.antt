@@ -1,13 +1,13 @@
 -- The laws of breadth first search: the queue that it leaves holds every node that can be reached, once and by the least word that leads
 -- there, and the first place and letter that pass a test make the least word that passes it.
-use Rattle.std.specs.Prelude.{◌≡◌, ◌⊎◌, ◌≢◌, Bool, length, take, ltb}
+use Rattle.std.specs.Prelude.{◌≡◌, ◌≢◌, Bool, length, take, ltb}
 use Rattle.std.proofs.Math.Path.{refl, sym, subst}
 use Rattle.std.proofs.Common.{ap, ◌∙◌, true≢false, not-suc-le-zero, le_of_suc-le-suc, lt_irrefl, lt_trans, mul-le-mul_right, div-add-mod', mod-lt, div-lt_iff_lt-mul}
 use Rattle.std.proofs.Math.Logic.{inl, inr}
 use Rattle.std.proofs.Math.Bool.{true, false}
 use mathlib.Core.List.{List, [], ◌∷◌, ◌++◌, append-nil, append_assoc}
 use Prim.Native.Nat.{ℕ, zero, suc, ◌+◌, ◌*◌, ◌/◌, ◌%◌, ◌-◌, ◌≤◌, ◌<◌}
-use Rattle.std.proofs.Math.Decide.{dec_lt, dec_le}
+use Rattle.std.proofs.Math.Decide.{dec_le}
 use native.Mathlib.Omega.{arith}
 use Rattle.std.proofs.Math.ListN.{get_or, length-append, get_or-append}
 use Rattle.std.proofs.Math.Seq.{get_or-append_seam}

@@ -1,5 +1,5 @@
 -- Document 01, 'Sheets': what the bytes of a machine sheet and of a proof sheet are. Each record begins with a two-byte ASCII mark.
-use Rattle.std.specs.Prelude.{List, [], ◌∷◌, ◌++◌, map, ℕ, zero, suc, ◌+◌, ◌*◌, ◌/◌, ◌%◌, length, get_or, take, drop}
+use Rattle.std.specs.Prelude.{List, [], ◌∷◌, ◌++◌, map, ℕ, zero, suc, ◌+◌, ◌*◌, ◌/◌, ◌%◌, length, take, drop}
 use Rattle.rules.specs.Words.{Word}
 use Rattle.rules.specs.Machine.{Machine}
 use Rattle.rules.specs.Table.{from}

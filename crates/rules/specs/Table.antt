@@ -1,7 +1,7 @@
 -- Document 01, 'Table, rounds and stop', rules 1 to 4 and 6, over any `ask`: the table knows a machine by its answers alone.
 -- S is the list of words, E the list of columns. τ is how many letters at a question's end stay as they are: 1 for links, whose
 -- questions have a letter, so that the first columns are the one-letter words; a kind that answers the empty word has 0.
-use Rattle.std.specs.Prelude.{◌≡◌, true, false, not, List, [], ◌∷◌, ◌++◌, map, ℕ, zero, suc, ◌+◌, ◌*◌, ◌-◌, ◌/◌, ◌%◌, ◌≤◌, ◌<◌, length, get_or, take, drop, eqb, ltb}
+use Rattle.std.specs.Prelude.{◌≡◌, true, false, not, List, [], ◌∷◌, ◌++◌, map, ℕ, zero, suc, ◌+◌, ◌*◌, ◌-◌, ◌/◌, ◌%◌, ◌<◌, length, get_or, take, drop, eqb, ltb}
 use Rattle.rules.specs.Words.{Word}
 use Rattle.rules.specs.Tests.{eqs}
 use Rattle.rules.specs.Seek.{seek}

@@ -1,7 +1,7 @@
 -- Words of letters, and their order: shorter first, then lower letters first.
 -- Over k letters the words are numbered 0, 1, 2, .. by `code`: a word stands before another exactly if its number is less.
 use Rattle.std.specs.Prelude.{◌≡◌, refl, ◌⊎◌, List, [], ◌∷◌, ◌++◌, ℕ, zero, suc, ◌+◌, ◌*◌, ◌/◌, ◌%◌, ◌-◌, ◌≤◌, ◌<◌, length, get_or, take, drop, replicate}
-use Rattle.std.proofs.Common.{sym, ap, ap₂, ◌∙◌, subst, inl, inr, not-suc-le-zero, le_of_suc-le-suc, suc-ne-zero, mul-le-mul_right, mul-le-mul_left, lt_irrefl, lt_trans, div-add-mod', mod-lt, div-le_self, le_trans, arith, length-take, length-drop, take-append-drop, length-append, drop_of_length-le}
+use Rattle.std.proofs.Common.{sym, ap, ap₂, ◌∙◌, subst, inl, inr, not-suc-le-zero, le_of_suc-le-suc, suc-ne-zero, mul-le-mul_right, mul-le-mul_left, lt_irrefl, lt_trans, div-add-mod', mod-lt, div-le_self, le_trans, arith, length-take, length-drop, take-append-drop, drop_of_length-le}
 use Rattle.std.proofs.Math.Nat.{suc_inj}
 use Rattle.std.proofs.Math.Decide.{ℕ_discrete, dec_lt}
 use Rattle.std.proofs.lemmas.List.{length-replicate}

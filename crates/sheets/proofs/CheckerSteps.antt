@@ -13,7 +13,6 @@ use Rattle.std.proofs.Math.Arith.{digits_lt}
 use Rattle.std.proofs.Math.Dec.{eqb}
 use Rattle.rules.specs.Tests.{outcome, or_split, eqb_true, eqb_false, ltb_yes, ltb_no, is_true, is_false, all_from, all_true, true_all}
 use Rattle.rules.specs.Words.{Word}
-use Rattle.rules.specs.Search.{walk}
 use Rattle.rules.specs.Machine.{Machine, lent, last_from}
 use Rattle.rules.specs.Answer.{Answer, refused, gives, demand, ◌>>◌}
 use Rattle.rules.specs.Sheets.{Proof}
@@ -24,7 +23,7 @@ use Rattle.sheets.specs.Proofs.{map_byte, proof_sheet, Counts, counts_of, read_p
 use Rattle.sheets.specs.ProofParts.{counts}
 use Rattle.sheets.specs.WordSteps.{clash}
 use Rattle.sheets.specs.Places.{laid, read_good}
-use Rattle.sheets.specs.Checker.{some_word, model_of, reaches_all, told_apart, all_apart, model_state, step_agrees, map_holds, judge, judge_sheet}
+use Rattle.sheets.specs.Checker.{some_word, model_of, reaches_all, told_apart, all_apart, step_agrees, map_holds, judge, judge_sheet}
 use Rattle.sheets.proofs.CheckerLaws.{or_true}
 use Rattle.sheets.specs.Held.{said, said_is, Held, model_is, mapped_states}
 use Rattle.sheets.specs.CheckerSteps.{reached, tells, apart_before, Mapping, mapped, state_agrees}

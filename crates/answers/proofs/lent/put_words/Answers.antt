@@ -1,7 +1,7 @@
 use borrow.Author.Rules.{rules}
 use native.Mathlib.Omega.{arith}
 use lib.ListN.{length-set}
-use Rattle.answers.proofs.areas.put_words.Goals as goal
+use Rattle.answers.proofs.lent.put_words.Goals as goal
 
 pub bounds-bytes-i-in-loop-i : goal.bounds-bytes-i-in-loop-i
 bounds-bytes-i-in-loop-i c = simp length-set (omega arith)
