@@ -13,7 +13,7 @@ use Rattle.rules.specs.MachineLaws.{last_snoc}
 use Rattle.rules.specs.Difference.{difference}
 use Rattle.rules.specs.DifferenceLaws.{found, found_least, none_agrees, agrees_none}
 use Rattle.rules.specs.Least.{stable}
-use Rattle.rules.specs.Smallest.{one_of_alike}
+use Rattle.rules.proofs.Smallest.{one_of_alike}
 use Rattle.rules.specs.Answer.{Answer, refused, gives}
 use Rattle.machine.specs.Lent.{link, lent_check, Sound}
 use Rattle.machine.specs.LentLaws.{both, demanded, lent_sound, sound_steps, steps_complete}

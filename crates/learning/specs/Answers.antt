@@ -1,5 +1,5 @@
 -- The learner's answer in the paper's terms: its number, or its counts. They fix it.
-use Rattle.std.specs.Prelude.{◌≡◌, refl, List, ℕ}
+use Rattle.std.specs.Prelude.{◌≡◌, List, ℕ}
 use Rattle.std.proofs.Common.{sym, ap, ◌∙◌, arith}
 use Rattle.rules.specs.Answer.{Answer, refused, gives}
 use Rattle.machine.specs.Refusals.{number, number_inj}

@@ -1,14 +1,14 @@
 -- What the loop of closing asks for: S is told apart and cannot outgrow the machine's states, and once an open row's word is appended the
 -- search for the next one goes on from that row.
-use Rattle.std.specs.Prelude.{◌≡◌, refl, List, [], ◌∷◌, ◌++◌, ℕ, zero, suc, ◌+◌, ◌*◌, ◌-◌, ◌≤◌, ◌<◌, length, get_or, eqb}
+use Rattle.std.specs.Prelude.{◌≡◌, refl, List, [], ◌∷◌, ◌++◌, ℕ, suc, ◌+◌, ◌*◌, ◌-◌, ◌≤◌, ◌<◌, length, eqb}
 use Rattle.std.proofs.Common.{sym, ap, ap₂, ◌∙◌, subst, suc-mul, arith, length-append}
 use Rattle.rules.specs.Words.{Word, Below}
-use Rattle.rules.specs.Machine.{Machine, lent, ask}
+use Rattle.rules.specs.Machine.{lent, ask}
 use Rattle.rules.specs.Seek.{seek}
 use Rattle.rules.specs.Table.{row, state_of, open_row, close}
 use Rattle.rules.specs.Closing.{Told, Columns, Words, all_snoc, open_told, open_on, open_le, closing_step, closing_stop}
 use Rattle.rules.specs.Round.{lower_bound}
-use Rattle.rules.specs.Links.{machine_classes}
+use Rattle.rules.proofs.Links.{machine_classes}
 use Rattle.machine.specs.Lent.{link, Sound}
 use Rattle.machine.specs.LentLaws.{sound_steps, steps_complete}
 use Rattle.areas.specs.Store.{stored_length}

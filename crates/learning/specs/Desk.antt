@@ -1,7 +1,7 @@
 -- The learner's desk between two steps: the words of S and the columns in their slots, the row that each word was taken from, and the table
 -- in its area. S and E are read off the slots.
-use Rattle.std.specs.Prelude.{◌≡◌, refl, ◌⊎◌, ◌≢◌, take, drop, set}
-use Rattle.std.proofs.Common.{sym, ◌∙◌, inl, inr, mul-le-mul_right, mul-le-mul, suc-mul, eq-or-lt_of_le, le_of_suc-le-suc, div-lt_iff_lt-mul, get_or-set_same, get_or-set_other}
+use Rattle.std.specs.Prelude.{◌≡◌, ◌⊎◌, set}
+use Rattle.std.proofs.Common.{sym, ◌∙◌, inl, inr, mul-le-mul, suc-mul, eq-or-lt_of_le, le_of_suc-le-suc, div-lt_iff_lt-mul, get_or-set_same, get_or-set_other}
 use Rattle.std.proofs.Math.Path.{ap, ap₂, subst}
 use mathlib.Core.List.{List, [], ◌∷◌, ◌++◌, map}
 use Prim.Native.Nat.{ℕ, zero, suc, ◌+◌, ◌*◌, ◌-◌, ◌/◌, ◌%◌, ◌≤◌, ◌<◌}
@@ -10,16 +10,16 @@ use native.Mathlib.Omega.{arith}
 use Rattle.std.proofs.Math.ListN.{length, get_or, length-append, length-set, get_or-append}
 use Rattle.std.proofs.Math.Seq.{get_or-append_seam}
 use Rattle.std.proofs.Math.Dec.{eqb}
-use Rattle.rules.specs.Words.{Word, Below}
+use Rattle.rules.specs.Words.{Word}
 use Rattle.rules.specs.Areas.{put, put_length}
-use Rattle.rules.specs.Machine.{Machine, lent, ask}
+use Rattle.rules.specs.Machine.{ask}
 use Rattle.rules.specs.Seek.{seek, seek_same}
-use Rattle.rules.specs.Table.{from, row, state_of, open_row, close, move, conjecture}
+use Rattle.rules.specs.Table.{from, row, state_of, open_row, move, conjecture}
 use Rattle.rules.specs.FromLaws.{map_from_same}
 use Rattle.rules.specs.Sheets.{words_of}
-use Rattle.rules.specs.Closing.{Short, Words, Told, Columns, all_snoc, open_on}
+use Rattle.rules.specs.Closing.{Short, all_snoc}
 use Rattle.machine.specs.Lent.{link, Sound}
-use Rattle.areas.specs.Store.{slot, stored, stored_length, stored_at, stored_put, Slots, Kept, kept_more, kept_long}
+use Rattle.areas.specs.Store.{stored, stored_length, stored_put, Kept, kept_more}
 use Rattle.learning.specs.Grid.{Filled, cell_of, Holds, holds_word, Beyond, filled_beyond, state_in, state_in_is, open_in, guess_in, row_stays, row_below}
 
 abbrev pub words_in : List ℕ → ℕ → List Word

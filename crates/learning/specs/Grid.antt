@@ -1,20 +1,18 @@
 -- The table in its lent area: cell (row, column) lies at row·W + column, and the other bytes of the first `size` are zero. W and `size` are
 -- 59 and 34,043 for the links of document 01.
-use Rattle.std.specs.Prelude.{◌≡◌, refl, ◌⊎◌, ◌≢◌, Bool, true, false, ◌&&◌, List, [], ◌∷◌, ◌++◌, map, ℕ, zero, suc, ◌+◌, ◌*◌, ◌-◌, ◌/◌, ◌%◌, ◌≤◌, ◌<◌, get_or, take, drop, set, ltb, eqb}
+use Rattle.std.specs.Prelude.{◌≡◌, refl, ◌⊎◌, List, [], ◌∷◌, ◌++◌, ℕ, zero, suc, ◌+◌, ◌*◌, ◌-◌, ◌/◌, ◌%◌, ◌≤◌, ◌<◌, get_or, take, drop, set, eqb}
 use Rattle.std.proofs.Math.Path.{sym, ap, ap₂}
-use Rattle.std.proofs.Common.{◌∙◌, subst, inl, inr, mul-le-mul_right, suc-mul, div-add-mod', mod-lt, div-lt_iff_lt-mul, drop_of_length-le, length-append, length-take, length-drop, get_or-take, get_or-drop, get_or-append-add}
-use Rattle.std.proofs.lemmas.List.{map-append, length-map, drop-append-le}
+use Rattle.std.proofs.Common.{◌∙◌, subst, inl, inr, mul-le-mul_right, suc-mul, div-add-mod', mod-lt, div-lt_iff_lt-mul, drop_of_length-le, length-append, length-take, length-drop, get_or-take, get_or-drop}
+use Rattle.std.proofs.lemmas.List.{map-append, drop-append-le}
 use Rattle.std.proofs.Math.Decide.{dec_lt, dec_le}
 use native.Mathlib.Omega.{arith}
 use Rattle.std.proofs.Math.ListN.{length, get_or-append}
 use Rattle.std.proofs.Math.Seq.{ext_get_or}
-use Rattle.std.proofs.Math.Arith.{digits_lt, digits_div, digits_mod}
-use Rattle.rules.specs.Tests.{eqs, lt_yes, lt_no}
+use Rattle.rules.specs.Tests.{eqs}
 use Rattle.rules.specs.Words.{Word, Below, below_append}
 use Rattle.rules.specs.Seek.{seek, seek_same, sought}
-use Rattle.rules.specs.Table.{from, row, cells, state_of, open_row}
+use Rattle.rules.specs.Table.{row, cells, state_of}
 use Rattle.rules.specs.Closing.{cells_get, cells_length}
-use Rattle.rules.specs.FromLaws.{map_from_length, map_from_at}
 use Rattle.rules.specs.Areas.{put, put_inside, put_store, put_length, put_below, put_in, put_above}
 use Rattle.areas.specs.Store.{slot, stored, stored_at, stored_length, stored_more, Kept, kept_long}
 

@@ -1,5 +1,5 @@
 -- Document 01, 'Table, rounds and stop' and 'Numbers to build for': the learner's answer, its counts, and the contents of both areas.
-use Rattle.std.specs.Prelude.{true, false, ◌&&◌, List, [], ◌++◌, map, ℕ, zero, ◌+◌, ◌*◌, ◌/◌, ◌%◌, length, get_or, ltb, leb}
+use Rattle.std.specs.Prelude.{true, false, ◌&&◌, List, [], ◌++◌, map, ℕ, ◌+◌, ◌*◌, ◌/◌, ◌%◌, length, get_or, ltb, leb}
 use Rattle.std.proofs.Math.Option.{none, some}
 use Rattle.rules.specs.Machine.{Machine, lent, ask}
 use Rattle.rules.specs.Table.{from, row, conjecture}

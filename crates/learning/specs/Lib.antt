@@ -4,14 +4,10 @@ pub mod Desk
 pub mod ClosingLaws
 pub mod Cut
 pub mod RoundLaws
-pub mod Outcomes
 pub mod Proper
 pub mod Bounds
-pub mod Finished
-pub mod Demand2
 pub mod Start
 pub mod Modelled
 pub mod Turns
-pub mod LearnLaws
 pub mod Answers
 pub mod Leaving

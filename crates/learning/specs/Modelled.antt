@@ -1,14 +1,12 @@
 -- The conjecture as lent words, and the difference that is sought from it.
-use Rattle.std.specs.Prelude.{◌≡◌, refl, List, [], ◌∷◌, ◌++◌, map, ℕ, ◌+◌, ◌*◌, ◌/◌, ◌%◌, ◌≤◌, ◌<◌, length, get_or}
+use Rattle.std.specs.Prelude.{◌≡◌, List, [], map, ℕ, ◌+◌, ◌*◌, ◌/◌, ◌%◌, ◌≤◌, ◌<◌, length, get_or}
 use Rattle.std.proofs.Math.Path.{sym, ap, subst}
-use Rattle.std.proofs.Common.{ap₂, ◌∙◌, arith}
-use Rattle.std.proofs.Math.Option.{Option, none, some}
+use Rattle.std.proofs.Common.{◌∙◌, arith}
 use Rattle.std.proofs.Math.Arith.{digits_lt}
-use Rattle.rules.specs.Words.{Word}
 use Rattle.rules.specs.Areas.{put, put_in}
 use Rattle.rules.specs.Machine.{Machine, Complete, lent, ask}
 use Rattle.rules.specs.MachineLaws.{ask_snoc}
-use Rattle.rules.specs.Table.{from, conjecture, move}
+use Rattle.rules.specs.Table.{from, conjecture}
 use Rattle.rules.specs.Closing.{Shut}
 use Rattle.rules.specs.Difference.{difference}
 use Rattle.rules.specs.Links.{counterexample}

@@ -1,15 +1,15 @@
 -- One round on the desk: the suffix becomes the last column, its cells are filled, and the table may be closed again.
-use Rattle.std.specs.Prelude.{◌≡◌, refl, ◌≢◌, get_or, take}
+use Rattle.std.specs.Prelude.{◌≡◌, ◌≢◌, get_or, take}
 use Rattle.std.proofs.Common.{sym, ap₂, ◌∙◌, subst, arith, length-append}
 use Rattle.std.proofs.Math.Path.{ap}
 use mathlib.Core.List.{List, [], ◌∷◌, ◌++◌}
-use Prim.Native.Nat.{ℕ, zero, suc, ◌+◌, ◌*◌, ◌-◌, ◌≤◌, ◌<◌}
+use Prim.Native.Nat.{ℕ, suc, ◌+◌, ◌*◌, ◌-◌, ◌≤◌, ◌<◌}
 use Rattle.std.proofs.Math.ListN.{length, drop, length-drop, get_or-append}
 use Rattle.std.proofs.Math.Seq.{take_all}
 use Rattle.rules.specs.Words.{Word, Below}
 use Rattle.rules.specs.Areas.{put}
-use Rattle.rules.specs.Machine.{Machine, lent, ask}
-use Rattle.rules.specs.Table.{row, close, move, cut, suffix}
+use Rattle.rules.specs.Machine.{lent, ask}
+use Rattle.rules.specs.Table.{row, move, cut, suffix}
 use Rattle.rules.specs.Closing.{Told, Shut, Columns, all_snoc, told_more}
 use Rattle.rules.specs.Round.{guess, Opened, round, suffix_long, suffix_below}
 use Rattle.rules.specs.Rounds.{more}

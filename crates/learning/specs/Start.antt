@@ -1,20 +1,20 @@
 -- Rule 1 on the desk: the empty word alone, the one-letter words for columns, and a table of zeros that is filled for them.
-use Rattle.std.specs.Prelude.{◌≡◌, refl, ◌⊎◌, set}
-use Rattle.std.proofs.Common.{sym, ap₂, ◌∙◌, inl, inr, not-suc-le-zero, le_of_suc-le-suc, zero-mul, arith}
+use Rattle.std.specs.Prelude.{◌≡◌, refl, set}
+use Rattle.std.proofs.Common.{sym, ap₂, ◌∙◌, not-suc-le-zero, le_of_suc-le-suc, zero-mul, arith}
 use Rattle.std.proofs.Math.Path.{ap, subst}
-use mathlib.Core.List.{List, [], ◌∷◌, ◌++◌, map}
+use mathlib.Core.List.{List, [], ◌∷◌, ◌++◌}
 use Prim.Native.Nat.{ℕ, zero, suc, ◌+◌, ◌*◌, ◌≤◌, ◌<◌}
 use Rattle.std.proofs.Math.ListN.{length, get_or, length-set}
 use Rattle.std.proofs.Math.Seq.{get_or-set_same}
-use Rattle.rules.specs.Words.{Word, Below}
+use Rattle.rules.specs.Words.{Word}
 use Rattle.rules.specs.Areas.{put, put_length}
-use Rattle.rules.specs.Machine.{Machine, lent, ask}
+use Rattle.rules.specs.Machine.{ask}
 use Rattle.rules.specs.Table.{from, one_letter, row}
 use Rattle.rules.specs.FromLaws.{map_from_snoc}
-use Rattle.rules.specs.Closing.{Short, Words, Told, Columns}
-use Rattle.rules.specs.Links.{one_letter_at, one_letter_length, one_letter_long}
+use Rattle.rules.specs.Closing.{Short, Told}
+use Rattle.rules.proofs.Links.{one_letter_at}
 use Rattle.machine.specs.Lent.{link, Sound}
-use Rattle.areas.specs.Store.{stored, stored_length, stored_put, Slots, Kept, kept_more}
+use Rattle.areas.specs.Store.{stored, stored_length, stored_put, Kept, kept_more}
 use Rattle.learning.specs.Grid.{Filled, cell_of, Holds, holds_columns, Beyond, filled_beyond}
 use Rattle.learning.specs.Desk.{Desk, words_in, columns_in}
 

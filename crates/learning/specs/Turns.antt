@@ -1,22 +1,23 @@
 -- The loop of the rounds: after p rounds the desk holds the table of the stop that p rounds allow, its conjecture and its counterexample.
-use Rattle.std.specs.Prelude.{◌≡◌, ◌≢◌, get_or, take}
+use Rattle.std.specs.Prelude.{◌≡◌, take}
 use Rattle.std.proofs.Math.Path.{refl, sym, ap}
-use Rattle.std.proofs.Common.{ap₂, ◌∙◌, subst, suc-ne-zero}
+use Rattle.std.proofs.Common.{ap₂, ◌∙◌, suc-ne-zero}
 use Rattle.std.proofs.Math.Option.{Option, none, some}
 use mathlib.Core.List.{List, [], ◌∷◌, ◌++◌}
-use Prim.Native.Nat.{ℕ, zero, suc, ◌+◌, ◌*◌, ◌-◌, ◌≤◌, ◌<◌}
+use Prim.Native.Nat.{ℕ, zero, suc, ◌+◌, ◌≤◌, ◌<◌}
 use native.Mathlib.Omega.{arith}
 use Rattle.std.proofs.Math.ListN.{length}
 use Rattle.rules.specs.Words.{Word}
 use Rattle.rules.specs.Areas.{put, put_part}
 use Rattle.rules.specs.Machine.{Machine, Complete, lent, ask}
-use Rattle.rules.specs.Table.{one_letter, close, move, conjecture, swapped}
-use Rattle.rules.specs.Closing.{Told, Shut, Columns}
+use Rattle.rules.specs.Table.{one_letter, close, conjecture, swapped}
+use Rattle.rules.specs.Closing.{Shut}
 use Rattle.rules.specs.Round.{guess}
 use Rattle.rules.specs.Rounds.{Stop, more, rounds, learned}
-use Rattle.rules.specs.Stages.{Stage, Stopped}
-use Rattle.rules.specs.Links.{counterexample, stopped, at_stop, right}
-use Rattle.rules.specs.Advance.{advance, stop_more}
+use Rattle.rules.proofs.Stages.{Stage, Stopped}
+use Rattle.rules.specs.Links.{counterexample, stopped}
+use Rattle.rules.proofs.Links.{at_stop, right}
+use Rattle.rules.proofs.Advance.{advance, stop_more}
 use Rattle.machine.specs.Lent.{link, Sound}
 use Rattle.machine.specs.LentLaws.{sound_steps, steps_complete}
 use Rattle.areas.specs.Store.{stored_length}
@@ -24,7 +25,7 @@ use Rattle.learning.specs.Desk.{Desk, words_in, columns_in}
 use Rattle.learning.specs.Modelled.{Modelled}
 use Rattle.learning.specs.RoundLaws.{Ready}
 use Rattle.search.specs.Pairs.{found_length, found_put}
-use Rattle.learning.specs.Proper.{Proper, sound_proper}
+use Rattle.learning.specs.Proper.{sound_proper}
 use Rattle.learning.specs.Bounds.{Bounds, stop_bounds}
 
 pub record Turn (n k : ℕ) (words : List ℕ) (p : ℕ) (s rows : List ℕ) (m : ℕ) (columns table model found : List ℕ) (left : ℕ) : Type 0 where

@@ -1,8 +1,8 @@
 -- Document 01, 'The machine' and 'Refusal numbers': lent words and a question, with their refusals in order.
-use Rattle.std.specs.Prelude.{◌≡◌, Bool, true, false, ◌&&◌, List, [], ◌∷◌, ℕ, ◌+◌, ◌*◌, ◌/◌, ◌≤◌, ◌<◌, length, get_or, ltb, leb}
+use Rattle.std.specs.Prelude.{◌≡◌, Bool, true, ◌&&◌, List, [], ◌∷◌, ℕ, ◌+◌, ◌*◌, ◌/◌, ◌≤◌, ◌<◌, length, get_or, ltb, leb}
 use Rattle.rules.specs.Words.{Word}
 use Rattle.rules.specs.Machine.{Machine, lent, ask}
-use Rattle.rules.specs.Answer.{Answer, refused, gives, demand, within, ◌>>◌}
+use Rattle.rules.specs.Answer.{Answer, gives, demand, within, ◌>>◌}
 
 -- every number of a list passes
 unfoldable pub all_pass : (ℕ → Bool) → List ℕ → Bool

@@ -1,13 +1,13 @@
 -- What the tests of lent words and of letters mean, and what a loop over them asks for.
-use Rattle.std.specs.Prelude.{◌≡◌, Bool, true, false, ◌&&◌, length, get_or, drop, ltb, leb}
+use Rattle.std.specs.Prelude.{◌≡◌, Bool, true, false, length, get_or, drop, ltb, leb}
 use Rattle.std.proofs.Math.Path.{refl}
-use Rattle.std.proofs.Common.{sym, ◌∙◌, not-suc-le-zero, le_of_suc-le-suc, add-one, arith}
+use Rattle.std.proofs.Common.{not-suc-le-zero, le_of_suc-le-suc, add-one, arith}
 use mathlib.Core.List.{List, [], ◌∷◌}
-use Prim.Native.Nat.{ℕ, zero, suc, ◌+◌, ◌*◌, ◌/◌, ◌%◌, ◌≤◌, ◌<◌}
+use Prim.Native.Nat.{ℕ, zero, suc, ◌+◌, ◌*◌, ◌/◌, ◌≤◌, ◌<◌}
 use Rattle.std.proofs.Math.ListN.{drop_of_length-le}
 use Rattle.std.proofs.Math.Seq.{drop-cons}
 use Rattle.std.proofs.Math.Arith.{digits_lt}
-use Rattle.rules.specs.Tests.{and_split, ltb_yes, lt_yes, leb_yes, le_yes}
+use Rattle.rules.specs.Tests.{and_split, ltb_yes, lt_yes, leb_yes}
 use Rattle.rules.specs.Words.{Word, Below}
 use Rattle.rules.specs.Search.{walk}
 use Rattle.rules.specs.Machine.{Machine, Complete, lent, last_from}

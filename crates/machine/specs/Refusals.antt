@@ -1,5 +1,5 @@
 -- Document 01, 'Refusal numbers': the number of each refusal. No two have the same.
-use Rattle.std.specs.Prelude.{◌≡◌, refl, List, [], ◌∷◌, ℕ, get_or}
+use Rattle.std.specs.Prelude.{◌≡◌, refl, [], ◌∷◌, ℕ, get_or}
 use Rattle.std.proofs.Common.{sym, ap, ◌∙◌}
 use Rattle.machine.specs.declared.refusal.Refusal.{Refusal}
 use Rattle.machine.specs.declared.refusal.Refusal.TheVariants.{EndsEarly, WrongMark, OutOfRange, NoSuchState, LeftOver, BadWord, BadLimit, SmallArea, SmallSheet, OverLimit, OtherSize, NotReached, NotApart, WrongMap}

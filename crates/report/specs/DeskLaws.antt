@@ -7,7 +7,7 @@ use Rattle.rules.specs.Answer.{Answer, refused, gives}
 use Rattle.sheets.specs.Machines.{Left, Size, read_machine}
 use Rattle.sheets.specs.Places.{laid}
 use Rattle.sheets.specs.Checker.{check}
-use Rattle.sheets.specs.Demand3.{accepts}
+use Rattle.sheets.proofs.Demand3.{accepts}
 use Rattle.learning.specs.Learner as learner
 use Rattle.learning.specs.Learner.{Learnt, done, unfinished, table_size, learn}
 use Rattle.apart.specs.Apart as apart

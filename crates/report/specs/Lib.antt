@@ -4,6 +4,5 @@ pub mod Reading
 pub mod Desk
 pub mod DeskAnswers
 pub mod DeskLaws
-pub mod DeskMeans
 pub mod Printed
 pub mod Cases

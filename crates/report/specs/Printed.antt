@@ -17,17 +17,17 @@ use Rattle.machine.specs.Lent.{link, lent_check}
 use Rattle.machine.specs.LentLaws.{lent_sound}
 use Rattle.finish.specs.Sheet.{numbered_sheet}
 use Rattle.learning.specs.Learner.{Counts, Learnt, table_size, sheet_size, finished, learn}
-use Rattle.learning.specs.Outcomes.{at_done, ended}
+use Rattle.learning.proofs.Outcomes.{at_done, ended}
 use Rattle.learning.specs.Proper.{sound_proper}
-use Rattle.learning.specs.Finished.{sheet_of, model_on}
-use Rattle.learning.specs.Demand2.{Figures, done_sheet, done_model, done_numbered, done_states, done_figures}
+use Rattle.learning.proofs.Finished.{sheet_of, model_on}
+use Rattle.learning.proofs.Demand2.{Figures, done_sheet, done_model, done_numbered, done_states, done_figures}
 use Rattle.sheets.specs.Reading.{Parsed, bad, good}
 use Rattle.sheets.specs.Machines.{Sheet, machine_sheet}
 use Rattle.sheets.specs.MachineLaws.{written_reads, read_was}
 use Rattle.sheets.specs.Places.{laid, model_at}
 use Rattle.sheets.specs.Seen.{Seen}
 use Rattle.sheets.specs.SeenLaws.{seen_reads, seen_bytes}
-use Rattle.sheets.specs.SmallestSheets.{learner_seen}
+use Rattle.sheets.proofs.SmallestSheets.{learner_seen}
 use Rattle.report.specs.Report.{line, model_mark, refusal, pair_line, pair_lines, model, told, told_of, report}
 use Rattle.report.specs.Reading.{sheet_refused, sheet_read, sheet_words, refused_says, read_says, always_done}
 

@@ -10,11 +10,11 @@ use Rattle.rules.specs.Answer.{Answer, refused, gives}
 use Rattle.machine.specs.Lent.{lent_check}
 use Rattle.machine.specs.LentLaws.{lent_sound, within_both}
 use Rattle.learning.specs.Learner.{Counts, Learnt, done, unfinished, Left, table_size, sheet_size, learn_check, learn}
-use Rattle.learning.specs.Outcomes.{taken, at_done, ended}
+use Rattle.learning.proofs.Outcomes.{taken, at_done, ended}
 use Rattle.learning.specs.Proper.{sound_proper}
 use Rattle.learning.specs.Bounds.{stop_bounds}
-use Rattle.learning.specs.Finished.{sheet_most}
-use Rattle.learning.specs.Demand2.{refused_leaves, ten_when, done_bytes, done_figures, done_or_ten}
+use Rattle.learning.proofs.Finished.{sheet_most}
+use Rattle.learning.proofs.Demand2.{refused_leaves, ten_when, done_bytes, done_figures, done_or_ten}
 use Rattle.sheets.specs.Reading.{Parsed, bad, good}
 use Rattle.sheets.specs.Machines as machines
 use Rattle.sheets.specs.Machines.{Sheet, Size, machine_sheet, read_leaves, read_machine}

@@ -5,7 +5,8 @@ use Rattle.std.proofs.Math.Nat.{mod-add-div}
 use Rattle.rules.specs.Areas.{put, put_store}
 use Rattle.text.specs.Putting.{Put, put_same, put_then}
 use Rattle.rules.specs.Answer.{Answer, refused, gives}
-use Rattle.text.specs.Decimal.{decimal, decimal_short}
+use Rattle.text.specs.Decimal.{decimal}
+use Rattle.text.proofs.Decimal.{decimal_short}
 use Rattle.learning.specs.Learner.{Counts, Learnt, done, unfinished}
 use Rattle.report.specs.Report.{number, line, refused_mark, model_mark, refusal, pair_line, pair_lines, model}
 

@@ -16,7 +16,6 @@ pub mod Areas
 pub mod Closing
 pub mod MachineLaws
 pub mod Round
-pub mod Stages
 pub mod Telling
 pub mod Lengths
 pub mod NumberingLaws
@@ -26,8 +25,6 @@ pub mod ByHand
 pub mod SheetLaws
 pub mod Alone
 pub mod Same
-pub mod Smallest
-pub mod Advance
 pub mod StateMap
 pub mod ProofLength
 pub mod Differs

@@ -1,10 +1,10 @@
 -- The states that words reach, by their least words, as the code keeps them: an array of states, and the words in slots of 48.
-use Rattle.std.specs.Prelude.{◌≡◌, refl, List, [], ◌∷◌, ◌++◌, map, ℕ, zero, suc, ◌+◌, ◌*◌, ◌/◌, ◌≤◌, ◌<◌, length, get_or, take, set, replicate}
-use Rattle.std.proofs.Common.{sym, ap, ◌∙◌, not-suc-le-zero, mul-le-mul_right, arith, length-set, take-suc-set}
-use Rattle.std.proofs.lemmas.List.{map-append, length-map, length-replicate}
+use Rattle.std.specs.Prelude.{◌≡◌, refl, List, [], ◌∷◌, ◌++◌, map, ℕ, zero, suc, ◌*◌, ◌≤◌, ◌<◌, length, get_or, take, set, replicate}
+use Rattle.std.proofs.Common.{sym, ap, ◌∙◌, not-suc-le-zero, arith, length-set, take-suc-set}
+use Rattle.std.proofs.lemmas.List.{map-append, length-map}
 use Rattle.rules.specs.Words.{Word}
 use Rattle.rules.specs.Search.{Entry}
-use Rattle.rules.specs.Machine.{Machine, lent}
+use Rattle.rules.specs.Machine.{Machine}
 use Rattle.rules.specs.Numbering.{reached, order, reaching_words}
 use Rattle.rules.specs.Areas.{put}
 use Rattle.machine.specs.Lent.{Steps}

@@ -1,7 +1,7 @@
 -- Two machines that are searched side by side: the pair of s and t is s·m + t, and no letter leads out of the n·m pairs.
-use Rattle.std.specs.Prelude.{◌≡◌, Bool, true, false, length, get_or, ltb}
+use Rattle.std.specs.Prelude.{◌≡◌, Bool, true, false, length, get_or}
 use Rattle.std.proofs.Math.Path.{refl, sym, ap}
-use Rattle.std.proofs.Common.{ap₂, ◌∙◌, subst, mod-lt, div-lt_iff_lt-mul, mul-le-mul, length-append}
+use Rattle.std.proofs.Common.{◌∙◌, subst, mod-lt, div-lt_iff_lt-mul, mul-le-mul, length-append}
 use Rattle.std.proofs.Math.Option.{Option, none, some}
 use mathlib.Core.List.{List, [], ◌∷◌, ◌++◌}
 use Prim.Native.Nat.{ℕ, zero, suc, ◌+◌, ◌*◌, ◌/◌, ◌%◌, ◌-◌, ◌≤◌, ◌<◌}

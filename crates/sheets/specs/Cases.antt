@@ -1,5 +1,5 @@
 -- Document 01, 'M1, by hand': the cases marked P, computed over the definitions, with every byte that the paper prints.
-use Rattle.std.specs.Prelude.{◌≡◌, refl, Bool, true, false, ◌&&◌, List, [], ◌∷◌, ◌++◌, ℕ, zero, suc, ◌+◌, ◌*◌, length, take, drop, replicate, eqb}
+use Rattle.std.specs.Prelude.{◌≡◌, refl, Bool, true, false, List, [], ◌∷◌, ◌++◌, ℕ, suc, length, take, replicate, eqb}
 use Rattle.rules.specs.Tests.{eqs}
 use Rattle.rules.specs.Areas.{zeros}
 use Rattle.rules.specs.Answer.{Answer, refused, gives}
@@ -7,7 +7,6 @@ use Rattle.learning.specs.Learner as learner
 use Rattle.learning.specs.Learner.{learn, Learnt, done, unfinished, table_size, sheet_size}
 use Rattle.sheets.specs.Reading.{Parsed, bad, good}
 use Rattle.sheets.specs.Machines.{Sheet, machine_sheet}
-use Rattle.sheets.specs.Proofs.{proof_sheet}
 use Rattle.sheets.specs.Checker.{check}
 
 -- ---- M1 and its proof sheet, record by record

@@ -1,12 +1,12 @@
 -- Document 01, 'The checker, in order': four questions to a proof sheet that is held against a machine.
-use Rattle.std.specs.Prelude.{Bool, true, false, ◌&&◌, ◌||◌, List, [], ◌∷◌, ℕ, ◌+◌, ◌*◌, length, get_or, ltb}
+use Rattle.std.specs.Prelude.{Bool, false, ◌&&◌, ◌||◌, List, [], ◌∷◌, ℕ, get_or}
 use Rattle.std.proofs.Math.Bool.{not}
 use Rattle.std.proofs.Math.Dec.{eqb}
 use Rattle.rules.specs.Words.{Word}
 use Rattle.rules.specs.Tests.{all_from}
 use Rattle.rules.specs.Search.{walk}
 use Rattle.rules.specs.Machine.{Machine, lent, last_from}
-use Rattle.rules.specs.Answer.{Answer, refused, gives, demand, ◌>>◌}
+use Rattle.rules.specs.Answer.{Answer, refused, demand, ◌>>◌}
 use Rattle.rules.specs.Sheets.{Proof}
 use Rattle.machine.specs.Lent.{link, lent_check}
 use Rattle.sheets.specs.Reading.{Parsed, bad, good}

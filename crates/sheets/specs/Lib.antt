@@ -20,7 +20,4 @@ pub mod CheckerAnswers
 pub mod Cases
 pub mod ProofCases
 pub mod Seen
-pub mod CheckerLaws
-pub mod SmallestSheets
 pub mod SeenLaws
-pub mod Demand3

@@ -13,7 +13,7 @@ use Rattle.rules.specs.Sheets.{MH, row_bytes, machine_bytes}
 use Rattle.rules.specs.SheetLaws.{machine_length, words_most}
 use Rattle.machine.specs.Lent.{lent_check}
 use Rattle.machine.specs.LentLaws.{lent_sound, within_both}
-use Rattle.sheets.specs.Reading.{Parsed, good, Reader, pure, ◌>>=◌, ◌>>◌, demand, present, byte, at_end, mark, rows}
+use Rattle.sheets.specs.Reading.{Parsed, good, Reader, pure, ◌>>=◌, ◌>>◌, demand, at_end, mark, rows}
 use Rattle.sheets.specs.Standing.{row_words}
 use Rattle.sheets.specs.Steps.{outcome, bad_good, came_good, came_bad, then_good, demanded, two, mark_were, mark_took, Read, rows_were, rows_took}
 use Rattle.sheets.specs.Machines.{Sheet, machine_sheet, read_leaves, read_machine, write_leaves, write_machine}

@@ -1,5 +1,5 @@
 -- Document 01: reading a machine sheet into a lent word area, and writing one from lent words.
-use Rattle.std.specs.Prelude.{true, false, List, [], ◌∷◌, ◌++◌, ℕ, ◌+◌, ◌*◌, length, take, drop, leb}
+use Rattle.std.specs.Prelude.{true, false, List, ℕ, length, leb}
 use Rattle.rules.specs.Areas.{over}
 use Rattle.rules.specs.Answer.{Answer, refused, gives, within}
 use Rattle.rules.specs.Sheets.{MH, machine_bytes}

@@ -1,5 +1,5 @@
 -- Document 01: reading a proof sheet, and the AW record of a state.
-use Rattle.std.specs.Prelude.{Bool, true, false, ◌&&◌, ◌||◌, List, [], ◌∷◌, ◌++◌, ℕ, zero, suc, ◌+◌, ◌*◌, length, get_or, eqb, ltb, leb}
+use Rattle.std.specs.Prelude.{Bool, true, false, ◌||◌, List, [], ◌∷◌, ℕ, zero, suc, length, get_or, eqb, ltb, leb}
 use Rattle.rules.specs.Words.{Word}
 use Rattle.rules.specs.Answer.{Answer, refused, gives, within}
 use Rattle.rules.specs.Sheets.{PH, AW, CW, SM, Proof, word_bytes}

@@ -1,5 +1,5 @@
 -- Document 01, 'Order': sheets are read left to right. A reader gives a value and the bytes that follow it, or the number of a refusal.
-use Rattle.std.specs.Prelude.{Bool, true, false, ◌&&◌, List, [], ◌∷◌, ◌++◌, ℕ, zero, suc, ◌+◌, ◌*◌, length, take, drop, eqb, ltb, leb}
+use Rattle.std.specs.Prelude.{Bool, true, false, List, [], ◌∷◌, ◌++◌, ℕ, zero, suc, ◌+◌, ◌*◌, length, take, drop, ltb, leb}
 use Rattle.rules.specs.Tests.{eqs}
 use Rattle.rules.specs.Sheets.{MR}
 

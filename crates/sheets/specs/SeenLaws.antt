@@ -1,6 +1,6 @@
 -- What can be read is what the checker takes as seen to. Such a sheet is read back as it was written, its numbers are bytes, and it has at
 -- most 9,368 of them.
-use Rattle.std.specs.Prelude.{◌≡◌, ◌⊎◌, true, List, [], ◌∷◌, ◌++◌, ℕ, zero, suc, ◌/◌, ◌%◌, ◌≤◌, ◌<◌, length, get_or, take, drop, eqb, ltb}
+use Rattle.std.specs.Prelude.{◌≡◌, ◌⊎◌, true, List, [], ◌∷◌, ◌++◌, ℕ, zero, suc, ◌/◌, ◌≤◌, ◌<◌, length, get_or, take, drop, eqb, ltb}
 use Rattle.std.proofs.Common.{inl, inr, mod-lt, arith, lit<}
 use Rattle.rules.specs.Tests.{and_split, or_split, eqb_true, ltb_yes}
 use Rattle.rules.specs.Words.{Word, Below, below_append, below_take, below_drop}

@@ -13,7 +13,7 @@ use Rattle.rules.specs.Answer.{within}
 use Rattle.rules.specs.Sheets.{word_bytes, words_bytes}
 use Rattle.machine.specs.Lent.{letters_below}
 use Rattle.machine.specs.LentLaws.{within_both, letters_are_below, below_letters}
-use Rattle.sheets.specs.Reading.{Parsed, good, pure, and_then, ◌>>=◌, ◌>>◌, byte, mark}
+use Rattle.sheets.specs.Reading.{Parsed, good, pure, and_then, ◌>>=◌, byte, mark}
 use Rattle.sheets.specs.MachineLaws.{mark_read}
 use Rattle.sheets.specs.Proofs.{word_record, word_records}
 use Rattle.sheets.specs.ProofParts.{letters, record_place, place_of}

@@ -1,0 +1,6 @@
+use Rattle.handheld.specs.Handheld.{counts_of}
+use mathlib.Core.Path.{ap, ◌∙◌}
+use Rattle.handheld.proofs.trachuliem_read_proof.Goals as goal
+
+pub returns : goal.returns
+returns c = c.counts_of.ensures ∙ ap counts_of c.read.ensures

@@ -1,0 +1,4 @@
+pub mod Stages
+pub mod Advance
+pub mod Smallest
+pub mod Links
