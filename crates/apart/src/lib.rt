@@ -15,7 +15,7 @@ use machine::Checked;
 use machine::refusal::Refusal;
 
 // The word's length and its last output from each state; none where no word tells the two apart.
-#[derive(Drop)]
+#[derive(Clone, Copy)]
 pub enum Why {
     None,
     Told {

@@ -28,14 +28,14 @@ use sheets::{checker, machines, proofs};
 
 // In each of these `refusal` is the paper's number, 0 for none; at a refusal the other numbers are 0.
 #[repr(C)]
-#[derive(Drop)]
+#[derive(Clone, Copy)]
 pub struct Output {
     pub refusal: u8,
     pub output: u8,
 }
 
 #[repr(C)]
-#[derive(Drop)]
+#[derive(Clone, Copy)]
 pub struct Size {
     pub refusal: u8,
     pub n: usize,
@@ -43,7 +43,7 @@ pub struct Size {
 }
 
 #[repr(C)]
-#[derive(Drop)]
+#[derive(Clone, Copy)]
 pub struct Length {
     pub refusal: u8,
     pub length: usize,
@@ -51,7 +51,7 @@ pub struct Length {
 
 // `kind` is 0 for a refusal, 1 for Done and 2 for Open.
 #[repr(C)]
-#[derive(Drop)]
+#[derive(Clone, Copy)]
 pub struct Outcome {
     pub kind: u8,
     pub refusal: u8,
@@ -62,7 +62,7 @@ pub struct Outcome {
 }
 
 #[repr(C)]
-#[derive(Drop)]
+#[derive(Clone, Copy)]
 pub struct Counts {
     pub refusal: u8,
     pub m: usize,
@@ -73,7 +73,7 @@ pub struct Counts {
 
 // `kind` is 0 for a refusal, 1 where a word tells the two states apart and 2 for none.
 #[repr(C)]
-#[derive(Drop)]
+#[derive(Clone, Copy)]
 pub struct Apart {
     pub kind: u8,
     pub refusal: u8,
@@ -84,7 +84,7 @@ pub struct Apart {
 
 // A part of a lent sheet. The empty part is at 0.
 #[repr(C)]
-#[derive(Drop)]
+#[derive(Clone, Copy)]
 pub struct Part {
     pub place: usize,
     pub length: usize,

@@ -25,7 +25,7 @@ use machine::Checked;
 use machine::refusal::Refusal;
 
 // What the learner answers: the words in S, the rounds past, the cells, and the bytes written to the sheet area; or a refusal.
-#[derive(Drop)]
+#[derive(Clone, Copy)]
 pub enum Learnt {
     Done {
         states: usize,

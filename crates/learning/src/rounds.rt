@@ -181,7 +181,7 @@ pub(crate) fn conclude(
 }
 
 // Where the rounds stop: the words of S, the rounds past, and the letters of the counterexample that is left, 0 where there is none.
-#[derive(Drop)]
+#[derive(Clone, Copy)]
 pub(crate) struct Stop {
     pub(crate) words: usize,
     pub(crate) past: usize,

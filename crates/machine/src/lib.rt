@@ -17,14 +17,14 @@ pub mod refusal;
 use refusal::Refusal;
 
 // What the check of lent words answers.
-#[derive(Drop)]
+#[derive(Clone, Copy)]
 pub enum Checked {
     Sound,
     Refused(Refusal),
 }
 
 // What a question answers.
-#[derive(Drop)]
+#[derive(Clone, Copy)]
 pub enum Answered {
     Output(u8),
     Refused(Refusal),

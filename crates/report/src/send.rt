@@ -11,7 +11,7 @@ use sheets::machines;
 use sheets::machines::MachineRead;
 
 // The length of the sheet at the start of the area, or a refusal.
-#[derive(Drop)]
+#[derive(Clone, Copy)]
 pub enum Sent {
     Sheet(usize),
     Refused(Refusal),

@@ -9,7 +9,7 @@ use sheets::machines::MachineRead;
 use sheets::{checker, machines};
 
 // The model's size, or a refusal of the one sheet or the other.
-#[derive(Drop)]
+#[derive(Clone, Copy)]
 pub enum Verdict {
     Accepted(usize),
     MachineRefused(Refusal),

@@ -17,14 +17,14 @@ use machine::Checked;
 use machine::refusal::Refusal;
 
 // What reading a machine sheet answers.
-#[derive(Drop)]
+#[derive(Clone, Copy)]
 pub enum MachineRead {
     Read { n: usize, k: usize },
     Refused(Refusal),
 }
 
 // What writing a machine sheet answers: the sheet's length.
-#[derive(Drop)]
+#[derive(Clone, Copy)]
 pub enum MachineWritten {
     Written(usize),
     Refused(Refusal),

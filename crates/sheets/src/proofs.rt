@@ -12,14 +12,14 @@ use machine::Checked;
 use machine::refusal::Refusal;
 
 // What a step answers: the place of the next one, or its refusal.
-#[derive(Drop)]
+#[derive(Clone, Copy)]
 pub(crate) enum Step {
     Next(usize),
     Refused(Refusal),
 }
 
 // What reading a proof sheet answers.
-#[derive(Drop)]
+#[derive(Clone, Copy)]
 pub enum ProofRead {
     Read {
         m: usize,
