@@ -1,4 +1,5 @@
--- The finished proof sheet as the code writes it, part by part, from the conjecture as lent words and the columns kept in slots.
+-- The finished proof sheet as the code writes it, from the conjecture as lent words and the columns kept in slots. That its parts make the
+-- whole: proofs/Sheet.
 use Rattle.std.specs.Prelude.{◌≡◌, Bool, true, false, ℕ, ◌+◌, ◌*◌, ◌/◌, ◌%◌, ◌≤◌, length, take, eqb, ltb}
 use mathlib.Core.List.{List, [], ◌∷◌}
 use Rattle.std.proofs.Math.ListN.{get_or}

@@ -12,7 +12,7 @@ use Rattle.rules.specs.Words.{Word, Below}
 use Rattle.rules.specs.Search.{walk}
 use Rattle.rules.specs.Machine.{Machine, Complete, lent, Equal, SmallestModel, ByLeastWords}
 use Rattle.rules.specs.Table.{conjecture}
-use Rattle.rules.specs.Rounds.{Stop, cell_count}
+use Rattle.rules.specs.Rounds.{cell_count}
 use Rattle.rules.specs.Links.{counterexample, stopped}
 use Rattle.rules.proofs.Links.{at_stop, conjecture_complete, rounds_enough, words_few}
 use Rattle.rules.specs.Differs.{Differs, difference_differs}
@@ -22,21 +22,13 @@ use Rattle.rules.specs.Answer.{Answer, refused, gives}
 use Rattle.machine.specs.Lent.{link}
 use Rattle.machine.specs.LentLaws.{lent_sound}
 use Rattle.learning.specs.Learner.{Counts, done, unfinished, Left, table_size, table_bytes, learn_check, counts, learn_leaves, learn}
-use Rattle.learning.proofs.Outcomes.{taken, Outcome, over_limit, is_done, is_open, AtDone, AtOpen, at_ten, ten_at, at_done, at_open, ended}
+use Rattle.learning.specs.Outcomes.{Outcome, over_limit, is_done, is_open, AtDone, AtOpen}
+use Rattle.learning.proofs.Outcomes.{taken, at_ten, ten_at, at_done, at_open, ended}
 use Rattle.learning.specs.Proper.{Proper, sound_proper}
 use Rattle.learning.specs.Bounds.{stop_bounds}
 use Rattle.learning.proofs.Finished as finish
-use Rattle.learning.proofs.Finished.{conjectured, sheet_of, model_on}
-
--- the counts of Done and Open, of a machine of n states and k letters and of the stop x, whose table is left in the area
-pub record Figures (n k : ℕ) (x : Stop) (c : Counts) : Type 0 where
-  pub words : c.states ≡ length x.S
-  pub columns : k + c.rounds ≡ length x.E
-  -- rows times columns
-  pub cells : c.cells ≡ (1 + c.states * k) * (k + c.rounds)
-  pub fewer : c.rounds < c.states
-  pub few : c.states ≤ n
-  pub most : c.cells ≤ (1 + n * k) * (k + n - 1)
+use Rattle.learning.specs.Finished.{conjectured, sheet_of, model_on}
+use Rattle.learning.specs.Demand2.{Figures}
 
 -- no counterexample is left, or one is
 left_none : {A : Type 0} {w : Word} → ◌≡◌ {A = Option Word} none (some w) → A

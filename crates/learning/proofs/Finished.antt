@@ -13,26 +13,16 @@ use Rattle.rules.proofs.Links.{at_stop, done_smallest}
 use Rattle.rules.specs.Numbering.{place, order, renumbered, model_state}
 use Rattle.rules.specs.NumberingLaws.{renumbered_complete, number_of, numbered}
 use Rattle.rules.specs.Same.{Same, words_length, same_walk, same_smallest, same_numbered, read_back}
-use Rattle.rules.proofs.Smallest.{Tells, one_for_each}
+use Rattle.rules.specs.Smallest.{Tells}
+use Rattle.rules.proofs.Smallest.{one_for_each}
 use Rattle.rules.specs.StateMap.{Unreached, map_length, reaching_short, renumbered_smallest, renumbered_states, map_at, state_placed, state_unreached}
-use Rattle.rules.specs.Sheets.{Proof, proof_bytes}
+use Rattle.rules.specs.Sheets.{proof_bytes}
 use Rattle.rules.specs.ProofLength.{proof_most}
-use Rattle.machine.specs.Lent.{link}
 use Rattle.learning.specs.Proper.{Proper}
 use Rattle.learning.specs.Bounds.{stop_bounds}
 use Rattle.finish.specs.Sheet.{numbered_sheet}
 use Rattle.learning.specs.Learner.{finished}
-
--- the conjecture of the table at the stop
-abbrev pub conjectured : ℕ → Machine → ℕ → Machine
-conjectured k M R = conjecture (ask M) (stopped k M R).E (stopped k M R).S
-
--- the finished sheet, and the model on a sheet over k letters
-abbrev pub sheet_of : ℕ → Machine → ℕ → Proof
-sheet_of k M R = finished k M (stopped k M R)
-
-abbrev pub model_on : ℕ → Proof → Machine
-model_on k P = link P.m k P.model
+use Rattle.learning.specs.Finished.{conjectured, sheet_of, model_on, Entries}
 
 -- the conjecture puts out what the machine does
 renumbered_low : (k : ℕ) (M : Machine) → ((s a : ℕ) → M.out s a < 256) → (E S : List Word) (i a : ℕ) → (renumbered k (conjecture (ask M) E S)).out i a < 256
@@ -40,18 +30,6 @@ unfolding renumbered conjecture
 renumbered_low k M low E S i a =
     let w = get_or S (get_or (order k (conjecture (ask M) E S)) i 0) [] in
     rw (ask_snoc M w a) (low (walk M.next 0 w) a)
-
--- what belongs on a sheet for a model N of M: a word that reaches each state, the model's state for each machine state that words reach, and
--- 255 for the others
-pub record Entries (k : ℕ) (M N : Machine) (reaching : List Word) (states : List ℕ) : Type 0 where
-  pub many : length reaching ≡ N.states
-  pub short : (j : ℕ) → j < N.states → length (get_or reaching j []) ≤ 47
-  pub letters : (j : ℕ) → j < N.states → Below k (get_or reaching j [])
-  pub reaches : (j : ℕ) → j < N.states → walk N.next 0 (get_or reaching j []) ≡ j
-  pub long : length states ≡ M.states
-  -- where a word leads the machine, the state to which it leads the model
-  pub mapped : (w : Word) → Below k w → get_or states (walk M.next 0 w) 255 ≡ walk N.next 0 w
-  pub unmapped : (s : ℕ) → s < M.states → Unreached k M s → get_or states s 255 ≡ 255
 
 module _ {k : ℕ} {M : Machine} (I : Proper k M) (R : ℕ) (closed : (stopped k M R).left ≡ none) where
   pub smallest : SmallestModel k M (conjectured k M R)

@@ -14,7 +14,7 @@ use Rattle.rules.specs.Table.{from}
 use Rattle.rules.specs.FromLaws.{map_from_length, map_from_at}
 use Rattle.rules.specs.Rounds.{Stop}
 use Rattle.learning.specs.Learner.{table_byte, table_bytes, stop_leaves}
-use Rattle.learning.proofs.Outcomes.{Outcome, over_limit, is_done, is_open, ten_leaves, done_leaves, open_leaves}
+use Rattle.learning.specs.Outcomes.{Outcome, over_limit, is_done, is_open, ten_leaves, done_leaves, open_leaves}
 use Rattle.learning.proofs.Outcomes as outcomes
 use Rattle.learning.specs.Grid.{Holds, Beyond}
 

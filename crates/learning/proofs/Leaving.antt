@@ -16,7 +16,7 @@ use Rattle.rules.specs.Same.{Same}
 use Rattle.machine.specs.Lent.{link}
 use Rattle.machine.specs.LentLaws.{sound_steps, steps_complete}
 use Rattle.learning.specs.Learner.{Counts, Learnt, done, unfinished, Left, finished, table_bytes, table_byte, counts, stop_leaves, learn_check, learn_leaves, learn}
-use Rattle.learning.proofs.Outcomes.{Outcome, over_limit, is_done, is_open, ten_leaves, done_leaves, open_leaves}
+use Rattle.learning.specs.Outcomes.{Outcome, over_limit, is_done, is_open}
 use Rattle.learning.proofs.Outcomes as outcomes
 use Rattle.learning.proofs.LearnLaws.{leaves_ten, leaves_done, leaves_open, table_is, zeros_over, zeroed_beyond}
 use Rattle.areas.specs.Store.{stored_length}

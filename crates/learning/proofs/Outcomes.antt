@@ -1,5 +1,5 @@
 -- The three ways in which the learner ends once it is not refused at the door: 10, Done and Open.
-use Rattle.std.specs.Prelude.{◌≡◌, refl, Bool, true, false, ◌&&◌, List, ℕ, ◌≤◌, ◌<◌, length, leb}
+use Rattle.std.specs.Prelude.{◌≡◌, refl, Bool, true, false, ◌&&◌, List, ℕ, ◌<◌, length, leb}
 use Rattle.std.proofs.Common.{sym, ap, ap₂, ◌∙◌, subst, arith, leb-false}
 use Rattle.std.proofs.Math.Option.{Option, none, some}
 use Rattle.rules.specs.Tests.{and_split, leb_yes}
@@ -7,21 +7,11 @@ use Rattle.rules.specs.Words.{Word}
 use Rattle.rules.specs.Machine.{Machine}
 use Rattle.rules.specs.Rounds.{Stop}
 use Rattle.rules.specs.Links.{stopped}
-use Rattle.rules.specs.Sheets.{proof_bytes, word_bytes, CX}
-use Rattle.rules.specs.Areas.{over, zeros}
 use Rattle.rules.specs.Answer.{Answer, refused, gives, within}
 use Rattle.machine.specs.Lent.{link, lent_check}
 use Rattle.machine.specs.LentLaws.{both, demanded, last_demanded, within_both}
-use Rattle.learning.specs.Learner.{Counts, Learnt, done, unfinished, Left, finished, table_size, sheet_size, table_bytes, learn_check, counts, stop_leaves, learn_leaves, learn}
-
--- ---- at the door
-pub record Taken (n k : ℕ) (words : List ℕ) (L R : ℕ) (table sheet : List ℕ) : Type 0 where
-  pub limit_low : 1 ≤ L
-  pub limit_high : L ≤ 48
-  pub rounds_high : R ≤ 47
-  pub machine : lent_check n k words ≡ gives tt
-  pub table_long : table_size ≤ length table
-  pub sheet_long : sheet_size ≤ length sheet
+use Rattle.learning.specs.Learner.{Counts, Learnt, done, unfinished, Left, table_size, sheet_size, learn_check, stop_leaves, learn_leaves, learn}
+use Rattle.learning.specs.Outcomes.{Taken, ten_leaves, done_leaves, open_leaves, Outcome, AtDone, AtOpen, over_limit, is_done, is_open}
 
 pub taken : (n k : ℕ) (words : List ℕ) (L R : ℕ) (table sheet : List ℕ) → learn_check n k words L R table sheet ≡ gives tt → Taken n k words L R table sheet
 unfolding learn_check
@@ -44,29 +34,6 @@ pub learn_leaves_stop : (n k : ℕ) (words : List ℕ) (L R : ℕ) (table sheet 
     → learn n k words L R table sheet ≡ stop_leaves k (link n k words) L (stopped k (link n k words) R) table sheet
 unfolding learn learn_leaves
 learn_leaves_stop n k words L R table sheet e = ap (λ (a : Answer (Unit {0})). learn_leaves a n k words L R table sheet) e
-
--- ---- where the rounds stop
-abbrev pub ten_leaves : List ℕ → List ℕ → Left
-ten_leaves table sheet = record { answer = refused 10; table = over (zeros table_size) table; sheet = sheet }
-
-abbrev pub done_leaves : ℕ → Machine → Stop → List ℕ → List ℕ → Left
-done_leaves k M x table sheet = record {
-  answer = gives (done (counts k x (proof_bytes (finished k M x))));
-  table = over (table_bytes k M x) table;
-  sheet = over (proof_bytes (finished k M x)) sheet;
-}
-
-abbrev pub open_leaves : ℕ → Machine → Stop → Word → List ℕ → List ℕ → Left
-open_leaves k M x w table sheet = record {
-  answer = gives (unfinished (counts k x (word_bytes CX w)));
-  table = over (table_bytes k M x) table;
-  sheet = over (word_bytes CX w) sheet;
-}
-
-pub data Outcome (k : ℕ) (M : Machine) (L : ℕ) (x : Stop) (table sheet : List ℕ) (left : Left) : Type 0 where
-  over_limit : L < length x.S → left ≡ ten_leaves table sheet → Outcome k M L x table sheet left
-  is_done : length x.S ≤ L → x.left ≡ none → left ≡ done_leaves k M x table sheet → Outcome k M L x table sheet left
-  is_open : (w : Word) → length x.S ≤ L → x.left ≡ some w → left ≡ open_leaves k M x w table sheet → Outcome k M L x table sheet left
 
 -- of three, the one that the test and the counterexample say
 abbrev either : Bool → Option Word → Left → Left → (Word → Left) → Left
@@ -94,19 +61,6 @@ ten_open e = let z : ◌≡◌ {A = ℕ} 0 1 = cc in absurd (omega arith)
 
 done_open : {A : Type 0} {c d : Counts} → ◌≡◌ {A = Answer Learnt} (gives (done c)) (gives (unfinished d)) → A
 done_open e = let z : ◌≡◌ {A = ℕ} 0 1 = cc in absurd (omega arith)
-
-pub record AtDone (k : ℕ) (M : Machine) (L : ℕ) (x : Stop) (table sheet : List ℕ) (c : Counts) (left : Left) : Type 0 where
-  pub few : length x.S ≤ L
-  pub closed : x.left ≡ none
-  pub leaves : left ≡ done_leaves k M x table sheet
-  pub counted : c ≡ counts k x (proof_bytes (finished k M x))
-
-pub record AtOpen (k : ℕ) (M : Machine) (L : ℕ) (x : Stop) (table sheet : List ℕ) (c : Counts) (left : Left) : Type 0 where
-  pub word : Word
-  pub few : length x.S ≤ L
-  pub still : x.left ≡ some word
-  pub leaves : left ≡ open_leaves k M x word table sheet
-  pub counted : c ≡ counts k x (word_bytes CX word)
 
 module _ {k : ℕ} {M : Machine} {L : ℕ} {x : Stop} {table sheet : List ℕ} {left : Left} where
   pub at_ten : Outcome k M L x table sheet left → left.answer ≡ refused 10 → (L < length x.S) × (left ≡ ten_leaves table sheet)

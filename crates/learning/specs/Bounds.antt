@@ -18,7 +18,8 @@ use Rattle.rules.specs.Difference.{pairs}
 use Rattle.rules.specs.DifferenceLaws.{pairs_few, found_short}
 use Rattle.rules.specs.Links.{counterexample, stopped}
 use Rattle.rules.proofs.Links.{at_stop, conjecture_complete, words_few, one_letter_at, one_letter_length}
-use Rattle.rules.proofs.Advance.{advance, stop_more}
+use Rattle.rules.specs.Advance.{advance}
+use Rattle.rules.proofs.Advance.{stop_more}
 use Rattle.rules.proofs.Smallest.{full_none}
 use Rattle.learning.specs.Proper.{Proper}
 

@@ -1,4 +1,4 @@
--- What the learner leaves where the rounds stop, made of what the desk holds there.
+-- What the learner leaves, put together from its parts.
 use Rattle.std.specs.Prelude.{List, ℕ}
 use Rattle.rules.specs.Answer.{Answer}
 use Rattle.learning.specs.Learner.{Counts, Learnt, Left}

@@ -11,3 +11,6 @@ pub mod Modelled
 pub mod Turns
 pub mod Answers
 pub mod Leaving
+pub mod Demand2
+pub mod Finished
+pub mod Outcomes

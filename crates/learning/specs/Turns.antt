@@ -14,10 +14,11 @@ use Rattle.rules.specs.Table.{one_letter, close, conjecture, swapped}
 use Rattle.rules.specs.Closing.{Shut}
 use Rattle.rules.specs.Round.{guess}
 use Rattle.rules.specs.Rounds.{Stop, more, rounds, learned}
-use Rattle.rules.proofs.Stages.{Stage, Stopped}
+use Rattle.rules.specs.Stages.{Stage, Stopped}
 use Rattle.rules.specs.Links.{counterexample, stopped}
 use Rattle.rules.proofs.Links.{at_stop, right}
-use Rattle.rules.proofs.Advance.{advance, stop_more}
+use Rattle.rules.specs.Advance.{advance}
+use Rattle.rules.proofs.Advance.{stop_more}
 use Rattle.machine.specs.Lent.{link, Sound}
 use Rattle.machine.specs.LentLaws.{sound_steps, steps_complete}
 use Rattle.areas.specs.Store.{stored_length}

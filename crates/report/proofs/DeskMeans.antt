@@ -11,7 +11,7 @@ use Rattle.rules.specs.Areas.{zeros}
 use Rattle.rules.specs.Answer.{Answer, refused, gives}
 use Rattle.machine.specs.Lent.{link, lent_check}
 use Rattle.learning.specs.Learner.{table_size, sheet_size, learn}
-use Rattle.learning.proofs.Finished.{sheet_of, model_on}
+use Rattle.learning.specs.Finished.{sheet_of, model_on}
 use Rattle.sheets.specs.Reading.{Parsed, bad, good}
 use Rattle.sheets.specs.Machines.{Sheet, Left, machine_sheet}
 use Rattle.sheets.specs.MachineSteps.{sheet_were}

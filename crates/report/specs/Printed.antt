@@ -19,8 +19,9 @@ use Rattle.finish.specs.Sheet.{numbered_sheet}
 use Rattle.learning.specs.Learner.{Counts, Learnt, table_size, sheet_size, finished, learn}
 use Rattle.learning.proofs.Outcomes.{at_done, ended}
 use Rattle.learning.specs.Proper.{sound_proper}
-use Rattle.learning.proofs.Finished.{sheet_of, model_on}
-use Rattle.learning.proofs.Demand2.{Figures, done_sheet, done_model, done_numbered, done_states, done_figures}
+use Rattle.learning.specs.Finished.{sheet_of, model_on}
+use Rattle.learning.specs.Demand2.{Figures}
+use Rattle.learning.proofs.Demand2.{done_sheet, done_model, done_numbered, done_states, done_figures}
 use Rattle.sheets.specs.Reading.{Parsed, bad, good}
 use Rattle.sheets.specs.Machines.{Sheet, machine_sheet}
 use Rattle.sheets.specs.MachineLaws.{written_reads, read_was}

@@ -15,7 +15,8 @@ use Rattle.rules.specs.FromLaws.{map_from_length, map_from_at}
 use Rattle.rules.specs.Closing.{Words, Columns}
 use Rattle.rules.specs.Round.{guess, Classes, lower_bound}
 use Rattle.rules.specs.Rounds.{learned}
-use Rattle.rules.proofs.Stages.{Stage, first_stage, Stopped, stops, enough}
+use Rattle.rules.specs.Stages.{Stage, Stopped}
+use Rattle.rules.proofs.Stages.{first_stage, stops, enough}
 use Rattle.rules.specs.DifferenceLaws.{Apart, found, none_agrees}
 use Rattle.rules.specs.Links.{counterexample, stopped}
 

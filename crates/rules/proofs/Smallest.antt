@@ -13,11 +13,12 @@ use Rattle.rules.specs.Search.{walk, walk_append}
 use Rattle.rules.specs.Machine.{Machine, Complete, answer_from, last_from, ask, Equal, SmallestModel}
 use Rattle.rules.specs.MachineLaws.{walk_low, last_append, last_any, ask_snoc, equal_asks, answers_last}
 use Rattle.rules.specs.Table.{cells, move, conjecture}
-use Rattle.rules.specs.Closing.{Told, Words, Columns, cells_ext, cells_at, told_place, state_same}
-use Rattle.rules.proofs.Stages.{Stage}
+use Rattle.rules.specs.Closing.{cells_ext, cells_at, told_place, state_same}
+use Rattle.rules.specs.Stages.{Stage}
 use Rattle.rules.specs.DifferenceLaws.{agrees_none}
 use Rattle.rules.specs.Links.{counterexample, stopped}
 use Rattle.rules.proofs.Links.{conjecture_complete, at_stop, rounds_enough, done_smallest}
+use Rattle.rules.specs.Smallest.{Tells}
 
 -- m different numbers below m: each number below m is among them
 pub onto : (m : ℕ) (f : ℕ → ℕ) → ((i : ℕ) → i < m → f i < m) → ((i j : ℕ) → i < j → j < m → f i ≢ f j) → (t : ℕ) → t < m → Least (λ i. f i ≡ t) m
@@ -55,16 +56,6 @@ module _ (k : ℕ) (M N : Machine) (equal : Equal k M N) where
   pub after_letter : (u : Word) (a : ℕ) → Below k u → a < k → M.out (walk M.next 0 u) a ≡ N.out (walk N.next 0 u) a
   after_letter u a bu ha =
       sym (ask_snoc M u a) ∙ equal_asks k M N equal (u ++ (a ∷ [])) (below_append k u (a ∷ []) bu (ha, tt)) (simp length-append (omega arith)) ∙ ask_snoc N u a
-
--- words S that the columns E tell apart in M, and an equal machine N with no more states than there are words
-pub record Tells (k : ℕ) (M N : Machine) (E S : List Word) : Type 0 where
-  pub whole : Complete k N
-  pub equal : Equal k M N
-  pub told : Told (ask M) E S
-  pub words : Words k S
-  pub columns : Columns 1 E
-  pub letters : Words k E
-  pub few : N.states ≤ length S
 
 module _ {k : ℕ} {M N : Machine} {E S : List Word} (T : Tells k M N E S) where
   abbrev ends : ℕ → ℕ

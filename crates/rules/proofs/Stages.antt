@@ -13,30 +13,10 @@ use Rattle.std.proofs.Math.Seq.{take-append-add, drop-append-add}
 use Rattle.rules.specs.Words.{Word, Below, below_append}
 use Rattle.rules.specs.Search.{walk, walk_append}
 use Rattle.rules.specs.Table.{close, Closes, move, swapped, suffix}
-use Rattle.rules.specs.Closing.{Told, Shut, Words, Columns, Short, all_snoc, told_more, closing_told, closing_words, closing_short, closing_grows, closing_ends, closes_shut, closes_long, open_grows}
+use Rattle.rules.specs.Closing.{Told, Words, Columns, Short, all_snoc, told_more, closing_told, closing_words, closing_short, closing_grows, closing_ends, closes_shut, closes_long, open_grows}
 use Rattle.rules.specs.Round.{guess, round, reach_low, suffix_long, suffix_below, Classes, lower_bound}
 use Rattle.rules.specs.Rounds.{Stop, more, rounds}
-
--- what holds of a closed table after p rounds; `first` columns stood there before them
-pub record Stage (ask : Word → ℕ) (k τ first p : ℕ) (E S : List Word) : Type 0 where
-  pub told : Told ask E S
-  pub shut : Shut ask k E S
-  pub head : get_or S 0 [] ≡ []
-  pub words : Words k S
-  pub short : Short S
-  pub columns : Columns τ E
-  pub letters : Words k E
-  pub wide : length E ≡ first + p
-  -- the rounds past are fewer than the words
-  pub grown : p < length S
-
--- a stop after p rounds and at most r more
-pub record Stopped (ask : Word → ℕ) (k τ first : ℕ) (find : List Word → List Word → Option Word) (p r : ℕ) (x : Stop) : Type 0 where
-  pub stage : Stage ask k τ first x.past x.E x.S
-  -- the counterexample left is the finder's at that very table
-  pub asked : x.left ≡ find x.E x.S
-  pub end : (x.left ≡ none) ⊎ (x.past ≡ p + r)
-  pub few : x.past ≤ p + r
+use Rattle.rules.specs.Stages.{Stage, Stopped}
 
 first_told : (ask : Word → ℕ) (E : List Word) → Told ask E ([] ∷ [])
 first_told ask E i zero h hj = absurd (not-suc-le-zero h)

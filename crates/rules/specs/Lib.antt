@@ -32,3 +32,6 @@ pub mod Listed
 pub mod SameDifference
 pub mod SameNumbering
 pub mod Records
+pub mod Stages
+pub mod Advance
+pub mod Smallest

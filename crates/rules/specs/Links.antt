@@ -1,4 +1,4 @@
--- Links, the machines of document 01: rules 1 to 6 with a machine's answers for the oracle, and what the stop means for the machine.
+-- Links, the machines of document 01: rules 1 to 6 with a machine's answers for the oracle. What the stop means for the machine: proofs/Links.
 use Rattle.std.specs.Prelude.{ℕ}
 use Rattle.std.proofs.Math.Option.{Option}
 use mathlib.Core.List.{List}

@@ -21,6 +21,7 @@ use Rattle.machine.specs.Lent.{next_below}
 use Rattle.machine.specs.LentLaws.{all_at, demanded, last_demanded}
 use Rattle.sheets.specs.Checker.{some_word, model_of, reaches_all, told_apart, all_apart, model_state, step_agrees, map_holds, judge}
 use Rattle.sheets.specs.Seen.{Seen}
+use Rattle.sheets.specs.CheckerLaws.{Alike, Step, Accepted}
 
 -- ---- some word passes, or none does
 pub some_true : (p : Word → Bool) (words : List Word) → some_word p words ≡ true → (c : ℕ) × (c < length words) × (p (get_or words c []) ≡ true)
@@ -42,23 +43,6 @@ unfolding some_word
 some_false p [] e c h = absurd (not-suc-le-zero h)
 some_false p (w ∷ words) e zero h = (or_false (p w) (some_word p words) e).0
 some_false p (w ∷ words) e (suc c) h = some_false p words (or_false (p w) (some_word p words) e).1 c (le_of_suc-le-suc h)
-
--- ---- the four questions in plain words
--- two model states answer each column alike
-abbrev pub Alike : Proof → ℕ → ℕ → Type 0
-Alike P i j = (c : ℕ) → c < length P.columns → last_from (model_of P) 0 i (get_or P.columns c []) ≡ last_from (model_of P) 0 j (get_or P.columns c [])
-
--- at a machine state and a letter the outputs agree, and the next state's model state is the model's next
-abbrev pub Step : Machine → Proof → ℕ → ℕ → Type 0
-Step M P s a = (M.out s a ≡ (model_of P).out (model_state M P s) a) × (model_state M P (M.next s a) ≡ (model_of P).next (model_state M P s) a)
-
-pub record Accepted (n k : ℕ) (M : Machine) (P : Proof) : Type 0 where
-  pub states : P.n ≡ n
-  pub letters : P.k ≡ k
-  pub reaches : (j : ℕ) → j < P.m → walk (model_of P).next 0 (get_or P.reaching j []) ≡ j
-  pub apart : (i j : ℕ) → i < P.m → j < P.m → Alike P i j → i ≡ j
-  pub start : model_state M P 0 ≡ 0
-  pub steps : (s a : ℕ) → s < P.n → a < P.k → model_state M P s ≢ 255 → Step M P s a
 
 pub or_true : (a b : Bool) → b ≡ true → (a || b) ≡ true
 or_true true b e = refl

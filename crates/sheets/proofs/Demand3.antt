@@ -17,7 +17,7 @@ use Rattle.machine.specs.LentLaws.{both, lent_sound}
 use Rattle.learning.specs.Learner.{Counts, done, learn_check, learn_leaves, learn}
 use Rattle.learning.proofs.Outcomes.{taken, at_done, ended}
 use Rattle.learning.specs.Proper.{Proper, sound_proper}
-use Rattle.learning.proofs.Finished.{sheet_of}
+use Rattle.learning.specs.Finished.{sheet_of}
 use Rattle.learning.proofs.Demand2.{done_sheet, done_bytes}
 use Rattle.sheets.specs.Reading.{Parsed, bad, good}
 use Rattle.sheets.specs.Proofs.{proof_sheet}
@@ -26,7 +26,8 @@ use Rattle.sheets.specs.Checker.{model_of, judge, judge_sheet, check}
 use Rattle.sheets.specs.Seen.{Seen}
 use Rattle.sheets.specs.SeenLaws.{read_seen, seen_reads, seen_bytes, seen_most}
 use Rattle.sheets.proofs.CheckerLaws as laws
-use Rattle.sheets.proofs.CheckerLaws.{Accepted, judged}
+use Rattle.sheets.specs.CheckerLaws.{Accepted}
+use Rattle.sheets.proofs.CheckerLaws.{judged}
 use Rattle.sheets.proofs.SmallestSheets.{learner_seen, learner_judged, any_judged}
 
 proper : (n k : ℕ) (words : List ℕ) → lent_check n k words ≡ gives tt → Proper k (link n k words)

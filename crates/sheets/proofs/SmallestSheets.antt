@@ -24,11 +24,14 @@ use Rattle.learning.specs.Learner.{finished}
 use Rattle.learning.specs.Proper.{Proper}
 use Rattle.learning.specs.Bounds.{stop_bounds}
 use Rattle.finish.specs.Sheet.{numbered_sheet}
-use Rattle.learning.proofs.Finished.{Entries, tells, smallest, entries, sheet_of}
+use Rattle.learning.specs.Finished.{Entries, sheet_of}
+use Rattle.learning.proofs.Finished.{tells, smallest, entries}
 use Rattle.sheets.specs.Proofs.{map_byte}
 use Rattle.sheets.specs.Checker.{model_of, model_state, judge}
 use Rattle.sheets.specs.Seen.{Seen}
-use Rattle.sheets.proofs.CheckerLaws.{or_true, Step, Accepted, judged}
+use Rattle.sheets.specs.CheckerLaws.{Step, Accepted}
+use Rattle.sheets.proofs.CheckerLaws.{or_true, judged}
+use Rattle.sheets.specs.SmallestSheets.{sheet_for}
 
 -- within a list it does not matter what stands for none
 any_default : (l : List ℕ) (i d e : ℕ) → i < length l → get_or l i d ≡ get_or l i e
@@ -50,19 +53,6 @@ words_next k N pos whole low =
         let ha : a < k = mod-lt i pos in
         let is = ap (λ (j : ℕ). get_or (words_of 256 k N) j 0 / 256) (sym (div-add-mod' i k)) ∙ ap (λ (x : ℕ). x / 256) (words_at 256 k N s a hs ha) ∙ digits_div (N.next s a) (low s a hs ha) in
         rw is (whole.1 s a hs ha)
-
--- the sheet of a model N of the machine M, with the columns E
-abbrev pub sheet_for : ℕ → Machine → List Word → Machine → List Word → List ℕ → Proof
-sheet_for k M E N reaching states = record {
-  m = N.states;
-  k = k;
-  n = M.states;
-  c = length E;
-  model = words_of 256 k N;
-  reaching = reaching;
-  columns = E;
-  state_map = states;
-}
 
 module _ {k : ℕ} {M N : Machine} {reaching : List Word} {states : List ℕ} (I : Proper k M) (R : ℕ) (closed : (stopped k M R).left ≡ none)
     (m : SmallestModel k M N) (X : Entries k M N reaching states) where

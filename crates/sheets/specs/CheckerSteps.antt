@@ -1,4 +1,4 @@
--- The checker step by step, as the code goes through it: its loops, its questions, and their order.
+-- The tests and the tables that the checker's code goes through step by step. What it keeps true: proofs/CheckerSteps.
 use Rattle.std.specs.Prelude.{◌≡◌, true, ◌||◌, length, get_or}
 use Rattle.std.proofs.Math.Bool.{Bool, not}
 use mathlib.Core.List.{List, []}

@@ -21,3 +21,5 @@ pub mod Cases
 pub mod ProofCases
 pub mod Seen
 pub mod SeenLaws
+pub mod CheckerLaws
+pub mod SmallestSheets

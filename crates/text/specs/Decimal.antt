@@ -1,4 +1,4 @@
--- Numbers as text: decimal digits, without leading zeros.
+-- Numbers as text: decimal digits, without leading zeros. That the kit spells them so: proofs/Decimal.
 use Rattle.std.specs.Prelude.{true, false, List, [], ◌∷◌, ◌++◌, ℕ, zero, suc, ◌+◌, ◌/◌, ◌%◌, ltb}
 
 -- the digits of x, in at most as many places as are given
