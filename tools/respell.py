@@ -4,7 +4,7 @@
 usage: python3 tools/respell.py [--list]      at the top of a repository that the kit's port.py has turned, once
 
 What is renamed is what specs/ and the files right in proofs/ declare: oneLetter becomes one_letter, accepted-smallest accepted_smallest.
-Functions of src/, strings and comments' prose keep their names. Two names that would fall together are told apart by AGAIN. --list only
+Functions of src/ and strings keep their names. Two names that would fall together are told apart by AGAIN. --list only
 prints the names, and each file in which a new name stood already.
 """
 
@@ -102,6 +102,9 @@ def pieces(text, rt):
 def main():
     kit = imported_from_kit()
     names = {n: spelt(n) for n in declared() if spelt(n) != n and n not in STAY}
+    # THERE would turn names that are today's already, so a second run changes nothing.
+    if not names:
+        raise SystemExit("respell: every name has today's spelling; this script has run")
     clash = sorted(n for n in names if n in kit)
     back = collections.defaultdict(list)
     for n, m in names.items():
