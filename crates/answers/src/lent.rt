@@ -1,39 +1,29 @@
 // Areas full of noise, and words as bytes: two by two, low first.
 ghost use Rattle.std.specs.Prelude.{◌*◌, ◌<◌, ◌≤◌, length};
 
+use crate::{Stop, write};
+
 // The number of two bytes.
-pub(crate) fn number(low: u8, high: u8) -> usize
+pub(crate) fn number(bytes: [u8; 2]) -> usize
     ensures { result < 65536 }
 {
-    (low as usize) + 256 * (high as usize)
+    usize::from(u16::from_le_bytes(bytes))
 }
 
-// The low byte of a number.
-pub(crate) fn low(x: usize) -> u8 {
-    (x % 256) as u8
-}
-
-// The byte above it.
-pub(crate) fn high(x: usize) -> u8 {
-    (x / 256 % 256) as u8
-}
-
-// The word of two bytes.
-fn word(low: u8, high: u8) -> u16 {
-    256 * (high as u16) + (low as u16)
+// The lowest two bytes of a number.
+pub(crate) fn low_high(x: usize) -> [u8; 2] {
+    ((x % 65536) as u16).to_le_bytes()
 }
 
 // Byte i of an area before the call: (7·i + 13·area + seed) mod 256.
 fn noise(i: usize, area: u8, seed: u8) -> u8 {
-    ((7 * (i % 256) + 13 * (area as usize) + (seed as usize)) % 256) as u8
+    ((7 * (i % 256) + 13 * usize::from(area) + usize::from(seed)) % 256) as u8
 }
 
 // Fills an area of bytes.
 pub(crate) fn fill(bytes: &mut [u8], area: u8, seed: u8) {
-    let mut i: usize = 0;
-    while i < bytes.len() {
+    for i in 0..bytes.len() {
         bytes[i] = noise(i, area, seed);
-        i += 1;
     }
 }
 
@@ -41,23 +31,8 @@ pub(crate) fn fill(bytes: &mut [u8], area: u8, seed: u8) {
 pub(crate) fn take_words(words: &mut [u16], bytes: &[u8])
     requires { length words.old * 2 ≤ length bytes.now }
 {
-    let mut i: usize = 0;
-    while i < words.len() {
-        words[i] = word(bytes[i * 2], bytes[i * 2 + 1]);
-        i += 1;
-    }
-}
-
-// Puts words as their bytes.
-fn put_words(bytes: &mut [u8], words: &[u16])
-    requires { length words.now * 2 ≤ length bytes.old }
-{
-    let mut i: usize = 0;
-    while i < words.len() {
-        let w = words[i];
-        bytes[i * 2] = machine::output_of(w);
-        bytes[i * 2 + 1] = low(machine::next_of(w));
-        i += 1;
+    for i in 0..words.len() {
+        words[i] = u16::from_le_bytes([bytes[i * 2], bytes[i * 2 + 1]]);
     }
 }
 
@@ -70,12 +45,16 @@ pub(crate) fn fill_words(words: &mut [u16], area: u8, seed: u8)
     take_words(words, &bytes);
 }
 
-// Writes the bytes of words.
-pub(crate) fn write_words(words: &[u16]) -> bool
+// Writes the bytes of words, at once.
+pub(crate) fn write_words(words: &[u16]) -> Result<(), Stop>
     requires { length words.now ≤ 600 }
 {
     let mut bytes = [0u8; 1200];
-    put_words(&mut bytes, words);
+    for (i, word) in words.iter().enumerate() {
+        let [output, next] = word.to_le_bytes();
+        bytes[i * 2] = output;
+        bytes[i * 2 + 1] = next;
+    }
     let end = words.len() * 2;
-    io::write_all(1, &bytes[..end])
+    write(&bytes[..end])
 }

@@ -34,278 +34,281 @@
 // answers sees that.
 #![tactic(auto)]
 
-ghost use Rattle.std.specs.Prelude.{◌≡◌, ◌*◌, ◌≤◌, length};
-
 mod lent;
 
-use apart::Why;
-use learning::Learnt;
-use machine::refusal::Refusal;
-use machine::{Answered, Checked, refusal};
-use machines::{MachineRead, MachineWritten};
-use proofs::ProofRead;
+use apart::Told;
+use learning::{Counts, Learnt};
+use lent::number;
+use machine::Refusal;
+use machines::Size;
 use sheets::{checker, machines, proofs};
 
+// Why no more cases are answered.
+#[derive(Clone, Copy)]
+enum Stop {
+    // the input ends, or the output does
+    Closed,
+    // a case does not fit the buffers
+    Room,
+    // there is no such operation
+    Operation,
+}
+
+#[derive(Clone, Copy)]
+enum Operation {
+    ReadMachine,
+    WriteMachine,
+    ReadProof,
+    AwRecord,
+    Question,
+    Learn,
+    Check,
+    Why,
+}
+
+impl TryFrom<u8> for Operation {
+    type Error = Stop;
+
+    fn try_from(code: u8) -> Result<Operation, Stop> {
+        match code {
+            1 => Ok(Operation::ReadMachine),
+            2 => Ok(Operation::WriteMachine),
+            3 => Ok(Operation::ReadProof),
+            4 => Ok(Operation::AwRecord),
+            5 => Ok(Operation::Question),
+            6 => Ok(Operation::Learn),
+            7 => Ok(Operation::Check),
+            8 => Ok(Operation::Why),
+            _ => Err(Stop::Operation),
+        }
+    }
+}
+
+// The head of a case: all that comes before its inputs.
+#[derive(Clone, Copy)]
+struct Case {
+    operation: u8,
+    seed: u8,
+    numbers: [usize; 4],
+    areas: [usize; 2],
+    inputs: [u16; 2],
+}
+
+impl From<[u8; 18]> for Case {
+    fn from(head: [u8; 18]) -> Case {
+        Case {
+            operation: head[0],
+            seed: head[1],
+            numbers: [
+                number([head[2], head[3]]),
+                number([head[4], head[5]]),
+                number([head[6], head[7]]),
+                number([head[8], head[9]]),
+            ],
+            areas: [number([head[10], head[11]]), number([head[12], head[13]])],
+            inputs: [
+                u16::from_le_bytes([head[14], head[15]]),
+                u16::from_le_bytes([head[16], head[17]]),
+            ],
+        }
+    }
+}
+
+fn write(bytes: &[u8]) -> Result<(), Stop> {
+    if io::write_all(1, bytes) {
+        Ok(())
+    } else {
+        Err(Stop::Closed)
+    }
+}
+
 // Writes an answer: its kind and its four numbers.
-fn say(kind: u8, a: usize, b: usize, c: usize, d: usize) -> bool {
-    let answer = [
-        kind,
-        lent::low(a),
-        lent::high(a),
-        lent::low(b),
-        lent::high(b),
-        lent::low(c),
-        lent::high(c),
-        lent::low(d),
-        lent::high(d),
-    ];
-    io::write_all(1, &answer)
+fn say(kind: u8, numbers: [usize; 4]) -> Result<(), Stop> {
+    let mut answer = [kind; 9];
+    for (i, x) in numbers.iter().enumerate() {
+        let [low, high] = lent::low_high(*x);
+        answer[1 + 2 * i] = low;
+        answer[2 + 2 * i] = high;
+    }
+    write(&answer)
 }
 
-fn say_refused(r: Refusal) -> bool {
-    say(0, machine::wide(refusal::number(r)), 0, 0, 0)
+fn say_refused(refusal: Refusal) -> Result<(), Stop> {
+    say(0, [usize::from(u8::from(refusal)), 0, 0, 0])
 }
 
-// Reading a machine sheet, into an area that is lent as its part of the buffer.
-fn read_machine_into(sheet: &[u8], words: &mut [u16], seed: u8) -> bool
-    requires { length words.old ≤ 600 }
-{
-    lent::fill_words(words, 0, seed);
-    let said = match machines::read(sheet, words) {
-        MachineRead::Read { n, k } => say(1, n, k, 0, 0),
-        MachineRead::Refused(r) => say_refused(r),
-    };
-    said && lent::write_words(words)
-}
-
-fn read_machine(sheet: &[u8], seed: u8, size: usize) -> bool {
+// Reading a machine sheet.
+fn read_machine(case: &Case, sheet: &[u8]) -> Result<(), Stop> {
+    let size = case.areas[0];
     if 600 < size {
-        return false;
+        return Err(Stop::Room);
     }
-    let mut words = [0u16; 600];
-    read_machine_into(sheet, &mut words[..size], seed)
+    let mut room = [0u16; 600];
+    let words = &mut room[..size];
+    lent::fill_words(words, 0, case.seed);
+    match machines::read(sheet, words) {
+        Ok(Size { n, k }) => say(1, [n, k, 0, 0])?,
+        Err(refusal) => say_refused(refusal)?,
+    }
+    lent::write_words(words)
 }
 
-// Writing a machine sheet, into an area that is lent as its part of the buffer.
-fn write_machine_into(words: &[u16], n: usize, k: usize, sheet: &mut [u8], seed: u8) -> bool {
-    lent::fill(sheet, 0, seed);
-    let said = match machines::write(words, n, k, sheet) {
-        MachineWritten::Written(length) => say(1, length, 0, 0, 0),
-        MachineWritten::Refused(r) => say_refused(r),
-    };
-    said && io::write_all(1, sheet)
-}
-
-fn write_machine(words: &[u16], n: usize, k: usize, seed: u8, size: usize) -> bool {
+// Writing a machine sheet.
+fn write_machine(case: &Case, words: &[u16]) -> Result<(), Stop> {
+    let size = case.areas[0];
     if 2000 < size {
-        return false;
+        return Err(Stop::Room);
     }
-    let mut sheet = [0u8; 2000];
-    write_machine_into(words, n, k, &mut sheet[..size], seed)
+    let mut room = [0u8; 2000];
+    let sheet = &mut room[..size];
+    lent::fill(sheet, 0, case.seed);
+    let [n, k, _, _] = case.numbers;
+    match machines::write(words, n, k, sheet) {
+        Ok(length) => say(1, [length, 0, 0, 0])?,
+        Err(refusal) => say_refused(refusal)?,
+    }
+    write(sheet)
 }
 
-fn read_proof(sheet: &[u8]) -> bool {
+fn read_proof(sheet: &[u8]) -> Result<(), Stop> {
     match proofs::read(sheet) {
-        ProofRead::Read { m, k, n, c } => say(1, m, k, n, c),
-        ProofRead::Refused(r) => say_refused(r),
+        Ok(counts) => say(1, [counts.m, counts.k, counts.n, counts.c]),
+        Err(refusal) => say_refused(refusal),
     }
 }
 
-fn aw_record(sheet: &[u8], state: usize) -> bool {
-    let part = proofs::aw_record(sheet, state);
-    say(1, part.len(), 0, 0, 0) && io::write_all(1, part)
+fn aw_record(case: &Case, sheet: &[u8]) -> Result<(), Stop> {
+    let part = proofs::aw_record(sheet, case.numbers[0]);
+    say(1, [part.len(), 0, 0, 0])?;
+    write(part)
 }
 
-fn question(words: &[u16], n: usize, k: usize, word: &[u8]) -> bool {
+fn question(case: &Case, words: &[u16], word: &[u8]) -> Result<(), Stop> {
+    let [n, k, _, _] = case.numbers;
     match machine::question(words, n, k, word) {
-        Answered::Output(output) => say(1, machine::wide(output), 0, 0, 0),
-        Answered::Refused(r) => say_refused(r),
+        Ok(output) => say(1, [usize::from(output), 0, 0, 0]),
+        Err(refusal) => say_refused(refusal),
     }
 }
 
-fn check(words: &[u16], n: usize, k: usize, sheet: &[u8]) -> bool {
+fn check(case: &Case, words: &[u16], sheet: &[u8]) -> Result<(), Stop> {
+    let [n, k, _, _] = case.numbers;
     match checker::check(words, n, k, sheet) {
-        Checked::Sound => say(1, 0, 0, 0, 0),
-        Checked::Refused(r) => say_refused(r),
+        Ok(()) => say(1, [0; 4]),
+        Err(refusal) => say_refused(refusal),
     }
 }
 
-// Learning, into two areas that are lent as their parts of the buffers.
-fn learn_into(
-    words: &[u16],
-    n: usize,
-    k: usize,
-    limit: usize,
-    most: usize,
-    table: &mut [u8],
-    sheet: &mut [u8],
-    seed: u8,
-) -> bool {
-    lent::fill(table, 0, seed);
-    lent::fill(sheet, 1, seed);
-    let said = match learning::learn(words, n, k, limit, most, table, sheet) {
-        Learnt::Done {
-            states,
-            rounds,
-            cells,
-            bytes,
-        } => say(1, states, rounds, cells, bytes),
-        Learnt::Open {
-            states,
-            rounds,
-            cells,
-            bytes,
-        } => say(2, states, rounds, cells, bytes),
-        Learnt::Refused(r) => say_refused(r),
-    };
-    said && io::write_all(1, table) && io::write_all(1, sheet)
+fn say_learnt(kind: u8, c: Counts) -> Result<(), Stop> {
+    say(kind, [c.states, c.rounds, c.cells, c.bytes])
 }
 
-fn learn(words: &[u16], n: usize, k: usize, head: &[u8; 18]) -> bool {
-    let limit = lent::number(head[6], head[7]);
-    let most = lent::number(head[8], head[9]);
-    let size = lent::number(head[10], head[11]);
-    let length = lent::number(head[12], head[13]);
-    if 36000 < size {
-        return false;
+fn learn(case: &Case, words: &[u16]) -> Result<(), Stop> {
+    let [size, length] = case.areas;
+    if 36000 < size || 10000 < length {
+        return Err(Stop::Room);
     }
-    if 10000 < length {
-        return false;
+    let mut table_room = areas::zeros::<36000>();
+    let mut sheet_room = areas::zeros::<10000>();
+    let table = &mut table_room[..size];
+    let sheet = &mut sheet_room[..length];
+    lent::fill(table, 0, case.seed);
+    lent::fill(sheet, 1, case.seed);
+    let [n, k, limit, most] = case.numbers;
+    match learning::learn(words, n, k, limit, most, table, sheet) {
+        Ok(Learnt::Done(counts)) => say_learnt(1, counts)?,
+        Ok(Learnt::Open(counts)) => say_learnt(2, counts)?,
+        Err(refusal) => say_refused(refusal)?,
     }
-    let mut table = table_room();
-    let mut sheet = [0u8; 10000];
-    learn_into(
-        words,
-        n,
-        k,
-        limit,
-        most,
-        &mut table[..size],
-        &mut sheet[..length],
-        head[1],
-    )
+    write(table)?;
+    write(sheet)
 }
 
-// Why two states are apart, into an area that is lent as its part of the buffer.
-fn why_into(
-    words: &[u16],
-    n: usize,
-    k: usize,
-    s: usize,
-    t: usize,
-    area: &mut [u8],
-    seed: u8,
-) -> bool {
-    lent::fill(area, 0, seed);
-    let said = match apart::why_apart(words, n, k, s, t, area) {
-        Why::Told {
-            length,
-            first,
-            second,
-        } => say(1, length, machine::wide(first), machine::wide(second), 0),
-        Why::None => say(2, 0, 0, 0, 0),
-        Why::Refused(r) => say_refused(r),
-    };
-    said && io::write_all(1, area)
-}
-
-fn why(words: &[u16], n: usize, k: usize, head: &[u8; 18]) -> bool {
-    let s = lent::number(head[6], head[7]);
-    let t = lent::number(head[8], head[9]);
-    let size = lent::number(head[10], head[11]);
+// Why two states are apart.
+fn why(case: &Case, words: &[u16]) -> Result<(), Stop> {
+    let size = case.areas[0];
     if 100 < size {
-        return false;
+        return Err(Stop::Room);
     }
-    let mut area = [0u8; 100];
-    why_into(words, n, k, s, t, &mut area[..size], head[1])
+    let mut room = [0u8; 100];
+    let area = &mut room[..size];
+    lent::fill(area, 0, case.seed);
+    let [n, k, s, t] = case.numbers;
+    match apart::why_apart(words, n, k, s, t, area) {
+        Ok(
+            Some(
+                Told {
+                    length,
+                    first,
+                    second,
+                },
+            ),
+        ) => say(1, [length, usize::from(first), usize::from(second), 0])?,
+        Ok(None) => say(2, [0; 4])?,
+        Err(refusal) => say_refused(refusal)?,
+    }
+    write(area)
 }
 
 // Has a case answered that lends a machine: its words are taken from the first input.
-fn answer_words(head: &[u8; 18], bytes: &[u8], second: &[u8], words: &mut [u16]) -> bool
-    requires { length words.old * 2 ≤ length bytes.now }
-{
-    lent::take_words(words, bytes);
-    let n = lent::number(head[2], head[3]);
-    let k = lent::number(head[4], head[5]);
-    match head[0] {
-        2 => write_machine(words, n, k, head[1], lent::number(head[10], head[11])),
-        5 => question(words, n, k, second),
-        6 => learn(words, n, k, head),
-        7 => check(words, n, k, second),
-        8 => why(words, n, k, head),
-        _ => false,
-    }
-}
-
-fn answer_machine(head: &[u8; 18], first: &[u8], second: &[u8]) -> bool {
+fn answer_words(
+    case: &Case,
+    operation: Operation,
+    first: &[u8],
+    second: &[u8],
+) -> Result<(), Stop> {
     let count = first.len() / 2;
     if 600 < count {
-        return false;
+        return Err(Stop::Room);
     }
-    let mut words = [0u16; 600];
-    answer_words(head, first, second, &mut words[..count])
-}
-
-// Has a case answered, and says whether that was done. The head is all that comes before the inputs.
-fn answer(head: &[u8; 18], first: &[u8], second: &[u8]) -> bool {
-    match head[0] {
-        1 => read_machine(first, head[1], lent::number(head[10], head[11])),
-        3 => read_proof(first),
-        4 => aw_record(first, lent::number(head[2], head[3])),
-        _ => answer_machine(head, first, second),
+    let mut room = [0u16; 600];
+    let words = &mut room[..count];
+    lent::take_words(words, first);
+    match operation {
+        Operation::WriteMachine => write_machine(case, words),
+        Operation::Question => question(case, words, second),
+        Operation::Learn => learn(case, words),
+        Operation::Check => check(case, words, second),
+        Operation::Why => why(case, words),
+        _ => Err(Stop::Operation),
     }
 }
 
-// Takes the inputs apart: the first ends at `end`.
-fn answer_parts(head: &[u8; 18], inputs: &[u8], end: usize) -> bool
-    requires { end ≤ length inputs.now }
-{
-    answer(head, &inputs[..end], &inputs[end..])
-}
-
-// Reads the inputs and has the case answered.
-fn answer_inputs(head: &[u8; 18], inputs: &mut [u8], end: usize) -> bool
-    requires { end ≤ length inputs.old }
-{
-    if io::read_full(0, inputs) < inputs.len() {
-        return false;
+// Has a case answered.
+fn answer(case: &Case, first: &[u8], second: &[u8]) -> Result<(), Stop> {
+    match Operation::try_from(case.operation)? {
+        Operation::ReadMachine => read_machine(case, first),
+        Operation::ReadProof => read_proof(first),
+        Operation::AwRecord => aw_record(case, first),
+        operation => answer_words(case, operation, first, second),
     }
-    answer_parts(head, inputs, end)
-}
-
-// Room for a table. The `ensures` gives only the length, which lending a part of it needs.
-fn table_room() -> [u8; 36000]
-    ensures { 36000 ≡ length result }
-{
-    [0; 36000]
-}
-
-// Room for the inputs, likewise.
-fn room() -> [u8; 16384]
-    ensures { 16384 ≡ length result }
-{
-    [0; 16384]
 }
 
 // Reads a case and has it answered.
-fn answer_case() -> bool {
+fn answer_case() -> Result<(), Stop> {
     let mut head = [0u8; 18];
     if io::read_full(0, &mut head) < 18 {
-        return false;
+        return Err(Stop::Closed);
     }
-    let first = lent::number(head[14], head[15]);
-    let size = first + lent::number(head[16], head[17]);
+    let case = Case::from(head);
+    let first = usize::from(case.inputs[0]);
+    let size = first + usize::from(case.inputs[1]);
     if 16384 < size {
-        return false;
+        return Err(Stop::Room);
     }
-    let mut inputs = room();
-    answer_inputs(&head, &mut inputs[..size], first)
+    let mut room = areas::zeros::<16384>();
+    if io::read_full(0, &mut room[..size]) < size {
+        return Err(Stop::Closed);
+    }
+    let inputs = &room[..size];
+    answer(&case, &inputs[..first], &inputs[first..])
 }
 
 fn main() {
-    // A proved loop has to end, and nothing says that the input does. So the turns are counted down, from a number that no run uses up.
-    let mut turns = u64::MAX;
-    while 0 < turns && answer_case() {
-        turns -= 1;
+    // A proved loop has to end, and nothing says that the input does. So the turns are counted, to a number that no run comes to.
+    for _ in 0..u64::MAX {
+        if answer_case().is_err() {
+            break;
+        }
     }
 }

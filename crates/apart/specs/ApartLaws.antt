@@ -1,7 +1,8 @@
 -- From what the search leaves to what is told, as the code goes.
-use Rattle.std.specs.Prelude.{◌≡◌, refl, ◌≢◌, List, [], ◌∷◌, ℕ, ◌≤◌, ◌<◌, length, take}
+use Rattle.std.specs.Prelude.{◌≡◌, refl, Option, Some, None, List, [], ◌∷◌, ℕ, ◌≤◌, ◌<◌, length, take}
 use Rattle.std.proofs.Common.{sym, ap₂, ◌∙◌, subst, arith, length-append}
-use Rattle.std.proofs.Math.Option.{Option, none, some}
+use Rattle.std.proofs.Math.Option.{none, some}
+use Rattle.std.proofs.Math.Option as paper
 use Rattle.rules.specs.Words.{Word, Below, below_append}
 use Rattle.rules.specs.Areas.{put, put_start, put_part}
 use Rattle.rules.specs.Machine.{Machine, Complete, last_from}
@@ -29,25 +30,26 @@ module _ (k : ℕ) (pos : 0 < k) (M : Machine) (whole : Complete k M) (s t : ℕ
         short = found_alone k pos M whole s t hs ht w e;
       }
 
-  -- no letters: none was found
-  pub none_found : found_length (difference M M k s t) ≡ 0 → difference M M k s t ≡ none
+  -- no length: none was found
+  pub none_found : ◌≡◌ {A = Option ℕ} None (found_length (difference M M k s t)) → difference M M k s t ≡ none
   none_found h = go (difference M M k s t) refl h
     where
-      go : (o : Option Word) → difference M M k s t ≡ o → found_length o ≡ 0 → difference M M k s t ≡ none
+      go : (o : paper.Option Word) → difference M M k s t ≡ o → ◌≡◌ {A = Option ℕ} None (found_length o) → difference M M k s t ≡ none
       go none e h = e
-      go (some w) e h = absurd (omega (arith, (is_found w e).long))
+      go (some w) e h = cc
 
   -- else the first letters of what was written are the word
-  pub word_found : (r : ℕ) (into written : List ℕ) → r ≢ 0 → M.states ≤ length into → r ≡ found_length (difference M M k s t)
+  pub word_found : (r : ℕ) (into written : List ℕ) → M.states ≤ length into → Some r ≡ found_length (difference M M k s t)
       → written ≡ found_put (difference M M k s t) into → Found k M s t (take r written) × (r < M.states)
-  word_found r into written more room size is = go (difference M M k s t) refl size is
+  word_found r into written room size is = go (difference M M k s t) refl size is
     where
-      go : (o : Option Word) → difference M M k s t ≡ o → r ≡ found_length o → written ≡ found_put o into → Found k M s t (take r written) × (r < M.states)
-      go none e size is = absurd (more size)
+      go : (o : paper.Option Word) → difference M M k s t ≡ o → Some r ≡ found_length o → written ≡ found_put o into → Found k M s t (take r written) × (r < M.states)
+      go none e size is = cc
       go (some w) e size is =
           let f = is_found w e in
-          let same : take r written ≡ w = ap₂ (λ (n : ℕ) (l : List ℕ). take n l) size is ∙ put_part 0 w into (omega (arith, f.short)) in
-          (subst (Found k M s t) (sym same) f, omega (arith, f.short))
+          let r_is : r ≡ length w = cc in
+          let same : take r written ≡ w = ap₂ (λ (n : ℕ) (l : List ℕ). take n l) r_is is ∙ put_part 0 w into (omega (arith, f.short)) in
+          (subst (Found k M s t) (sym same) f, omega (arith, r_is, f.short))
 
 -- the parts of what is told
 pub named : (M : Machine) (s t : ℕ) (w area left : List ℕ) (first second : ℕ) → first ≡ last_from M 0 s w → second ≡ last_from M 0 t w → left ≡ put 0 w area

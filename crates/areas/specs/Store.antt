@@ -99,6 +99,20 @@ module _ (width : ℕ) (store : List ℕ) (count : ℕ) (S : Slots width store c
       fits j (inl e) = rw (e, head) short
       fits j (inr h) = let l = earlier j h in rw (stays (j * width) (omega (arith, S.fits j h))) (S.fits j h)
 
+-- what is known of a slot in use, where the words are `words`
+module _ {width : ℕ} {store : List ℕ} {count : ℕ} (S : Slots width store count) {words : List Word} (is : stored width store count ≡ words) (j : ℕ) (h : j < length words) where
+  in_use : j < count
+  in_use = omega (arith, stored_length width store count, ap length is)
+
+  pub slot_room : j * width + width ≤ length store
+  slot_room = omega (arith, in_use, suc-mul j width, mul-le-mul_right width in_use, S.room)
+
+  pub slot_fits : get_or store (j * width) 0 < width
+  slot_fits = S.fits j in_use
+
+  pub slot_is : slot width store j ≡ get_or words j []
+  slot_is = sym (stored_at width store count j in_use) ∙ ap (λ (l : List Word). get_or l j []) is
+
 -- words kept in slots, with letters below k
 pub record Kept (width k : ℕ) (store : List ℕ) (count : ℕ) : Type 0 where
   pub slots : Slots width store count

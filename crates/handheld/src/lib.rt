@@ -4,12 +4,12 @@
 #![tactic(auto)]
 
 ghost use Rattle.std.specs.Prelude.{◌≡◌, length};
-ghost use Rattle.machine.specs.Answers.{checked, answered};
+ghost use Rattle.machine.specs.Answers.{answered};
 ghost use Rattle.machine.specs.Lent.{lent_check};
 ghost use Rattle.machine.specs.Lent as lents;
 ghost use Rattle.learning.specs.Answers.{learnt};
 ghost use Rattle.learning.specs.Learner as learner;
-ghost use Rattle.sheets.specs.MachineAnswers.{read_of, written_of};
+ghost use Rattle.sheets.specs.MachineAnswers.{read_of};
 ghost use Rattle.sheets.specs.Machines.{read_machine, write_machine};
 ghost use Rattle.sheets.specs.ProofAnswers as proofAnswers;
 ghost use Rattle.sheets.specs.Proofs.{read_proof, aw_record};
@@ -19,11 +19,9 @@ ghost use Rattle.apart.specs.Answers.{why_of};
 ghost use Rattle.apart.specs.Apart as states;
 ghost use Rattle.handheld.specs.Handheld.{refusal_of, output_of, size_of, length_of, outcome_of, counts_of, apart_of};
 
-use apart::Why;
+use apart::Told;
 use learning::Learnt;
-use machine::{Answered, Checked, refusal};
-use sheets::machines::{MachineRead, MachineWritten};
-use sheets::proofs::ProofRead;
+use machine::Refusal;
 use sheets::{checker, machines, proofs};
 
 // In each of these `refusal` is the paper's number, 0 for none; at a refusal the other numbers are 0.
@@ -90,144 +88,142 @@ pub struct Part {
     pub length: usize,
 }
 
-// The numbers of each answer; a check has the refusal alone.
-fn number_of(c: Checked) -> u8
-    ensures { result ≡ refusal_of (checked c) }
+// The numbers of each answer; a check has the refusal alone, and no `From`, since neither type is this crate's.
+fn number_of(c: Result<(), Refusal>) -> u8
+    ensures { result ≡ refusal_of (answered c) }
 {
     match c {
-        Checked::Sound => 0,
-        Checked::Refused(r) => refusal::number(r),
+        Ok(()) => 0,
+        Err(r) => u8::from(r),
     }
 }
 
-fn output_of(a: Answered) -> Output
-    ensures { result ≡ output_of (answered a) }
-{
-    match a {
-        Answered::Output(output) => Output { refusal: 0, output },
-        Answered::Refused(r) => Output {
-            refusal: refusal::number(r),
-            output: 0,
-        },
+impl From<Result<u8, Refusal>> for Output {
+    ghost from_gives = { λ a o. o ≡ output_of (answered a) };
+
+    fn from(a: Result<u8, Refusal>) -> Output {
+        match a {
+            Ok(output) => Output { refusal: 0, output },
+            Err(r) => Output {
+                refusal: u8::from(r),
+                output: 0,
+            },
+        }
     }
 }
 
-fn size_of(a: MachineRead) -> Size
-    ensures { result ≡ size_of (read_of a) }
-{
-    match a {
-        MachineRead::Read { n, k } => Size { refusal: 0, n, k },
-        MachineRead::Refused(r) => Size {
-            refusal: refusal::number(r),
-            n: 0,
-            k: 0,
-        },
+impl From<Result<machines::Size, Refusal>> for Size {
+    ghost from_gives = { λ a s. s ≡ size_of (read_of a) };
+
+    fn from(a: Result<machines::Size, Refusal>) -> Size {
+        match a {
+            Ok(size) => Size {
+                refusal: 0,
+                n: size.n,
+                k: size.k,
+            },
+            Err(r) => Size {
+                refusal: u8::from(r),
+                n: 0,
+                k: 0,
+            },
+        }
     }
 }
 
-fn length_of(a: MachineWritten) -> Length
-    ensures { result ≡ length_of (written_of a) }
-{
-    match a {
-        MachineWritten::Written(length) => Length { refusal: 0, length },
-        MachineWritten::Refused(r) => Length {
-            refusal: refusal::number(r),
-            length: 0,
-        },
+impl From<Result<usize, Refusal>> for Length {
+    ghost from_gives = { λ a l. l ≡ length_of (answered a) };
+
+    fn from(a: Result<usize, Refusal>) -> Length {
+        match a {
+            Ok(length) => Length { refusal: 0, length },
+            Err(r) => Length {
+                refusal: u8::from(r),
+                length: 0,
+            },
+        }
     }
 }
 
-fn outcome_of(a: Learnt) -> Outcome
-    ensures { result ≡ outcome_of (learnt a) }
-{
-    match a {
-        Learnt::Done {
-            states,
-            rounds,
-            cells,
-            bytes,
-        } => Outcome {
-            kind: 1,
+impl From<Result<Learnt, Refusal>> for Outcome {
+    ghost from_gives = { λ a o. o ≡ outcome_of (learnt a) };
+
+    fn from(a: Result<Learnt, Refusal>) -> Outcome {
+        let (kind, counts) = match a {
+            Ok(Learnt::Done(counts)) => (1, counts),
+            Ok(Learnt::Open(counts)) => (2, counts),
+            Err(r) => {
+                return Outcome {
+                    kind: 0,
+                    refusal: u8::from(r),
+                    states: 0,
+                    rounds: 0,
+                    cells: 0,
+                    bytes: 0,
+                };
+            }
+        };
+        Outcome {
+            kind,
             refusal: 0,
-            states,
-            rounds,
-            cells,
-            bytes,
-        },
-        Learnt::Open {
-            states,
-            rounds,
-            cells,
-            bytes,
-        } => Outcome {
-            kind: 2,
-            refusal: 0,
-            states,
-            rounds,
-            cells,
-            bytes,
-        },
-        Learnt::Refused(r) => Outcome {
-            kind: 0,
-            refusal: refusal::number(r),
-            states: 0,
-            rounds: 0,
-            cells: 0,
-            bytes: 0,
-        },
+            states: counts.states,
+            rounds: counts.rounds,
+            cells: counts.cells,
+            bytes: counts.bytes,
+        }
     }
 }
 
-fn counts_of(a: ProofRead) -> Counts
-    ensures { result ≡ counts_of (proofAnswers.read_of a) }
-{
-    match a {
-        ProofRead::Read { m, k, n, c } => Counts {
-            refusal: 0,
-            m,
-            k,
-            n,
-            c,
-        },
-        ProofRead::Refused(r) => Counts {
-            refusal: refusal::number(r),
-            m: 0,
-            k: 0,
-            n: 0,
-            c: 0,
-        },
+impl From<Result<proofs::Counts, Refusal>> for Counts {
+    ghost from_gives = { λ a c. c ≡ counts_of (proofAnswers.read_of a) };
+
+    fn from(a: Result<proofs::Counts, Refusal>) -> Counts {
+        match a {
+            Ok(counts) => Counts {
+                refusal: 0,
+                m: counts.m,
+                k: counts.k,
+                n: counts.n,
+                c: counts.c,
+            },
+            Err(r) => Counts {
+                refusal: u8::from(r),
+                m: 0,
+                k: 0,
+                n: 0,
+                c: 0,
+            },
+        }
     }
 }
 
-fn apart_of(a: Why) -> Apart
-    ensures { result ≡ apart_of (why_of a) }
-{
-    match a {
-        Why::Told {
-            length,
-            first,
-            second,
-        } => Apart {
-            kind: 1,
-            refusal: 0,
-            length,
-            first,
-            second,
-        },
-        Why::None => Apart {
-            kind: 2,
-            refusal: 0,
-            length: 0,
-            first: 0,
-            second: 0,
-        },
-        Why::Refused(r) => Apart {
-            kind: 0,
-            refusal: refusal::number(r),
-            length: 0,
-            first: 0,
-            second: 0,
-        },
+impl From<Result<Option<Told>, Refusal>> for Apart {
+    ghost from_gives = { λ a t. t ≡ apart_of (why_of a) };
+
+    fn from(a: Result<Option<Told>, Refusal>) -> Apart {
+        match a {
+            Ok(Some(told)) => Apart {
+                kind: 1,
+                refusal: 0,
+                length: told.length,
+                first: told.first,
+                second: told.second,
+            },
+            Ok(None) => Apart {
+                kind: 2,
+                refusal: 0,
+                length: 0,
+                first: 0,
+                second: 0,
+            },
+            Err(r) => Apart {
+                kind: 0,
+                refusal: u8::from(r),
+                length: 0,
+                first: 0,
+                second: 0,
+            },
+        }
     }
 }
 
@@ -242,7 +238,7 @@ pub extern "C" fn trachuliem_check_machine(words: &[u16], n: usize, k: usize) ->
 pub extern "C" fn trachuliem_question(words: &[u16], n: usize, k: usize, word: &[u8]) -> Output
     ensures { result ≡ output_of (lents.question n k words.now word.now) }
 {
-    output_of(machine::question(words, n, k, word))
+    Output::from(machine::question(words, n, k, word))
 }
 
 #[unsafe(no_mangle)]
@@ -259,7 +255,7 @@ pub extern "C" fn trachuliem_learn(
     ensures table_after { table.new ≡ (learner.learn n k words.now limit most table.old sheet.old).table }
     ensures sheet_after { sheet.new ≡ (learner.learn n k words.now limit most table.old sheet.old).sheet }
 {
-    outcome_of(learning::learn(words, n, k, limit, most, table, sheet))
+    Outcome::from(learning::learn(words, n, k, limit, most, table, sheet))
 }
 
 #[unsafe(no_mangle)]
@@ -267,7 +263,7 @@ pub extern "C" fn trachuliem_read_machine(sheet: &[u8], area: &mut [u16]) -> Siz
     ensures value { result ≡ size_of (read_machine sheet.now area.old).answer }
     ensures area_after { area.new ≡ (read_machine sheet.now area.old).area }
 {
-    size_of(machines::read(sheet, area))
+    Size::from(machines::read(sheet, area))
 }
 
 #[unsafe(no_mangle)]
@@ -280,14 +276,14 @@ pub extern "C" fn trachuliem_write_machine(
     ensures value { result ≡ length_of (write_machine n k words.now area.old).answer }
     ensures area_after { area.new ≡ (write_machine n k words.now area.old).area }
 {
-    length_of(machines::write(words, n, k, area))
+    Length::from(machines::write(words, n, k, area))
 }
 
 #[unsafe(no_mangle)]
 pub extern "C" fn trachuliem_read_proof(sheet: &[u8]) -> Counts
     ensures { result ≡ counts_of (read_proof sheet.now) }
 {
-    counts_of(proofs::read(sheet))
+    Counts::from(proofs::read(sheet))
 }
 
 // A part's place cannot be read off it in Rattle: the place is found again.
@@ -296,14 +292,12 @@ pub extern "C" fn trachuliem_aw_record(sheet: &[u8], state: usize) -> Part
     ensures { (result.place ≡ aw_place sheet.now state) × (result.length ≡ length (aw_record sheet.now state)) }
 {
     let length = proofs::aw_record(sheet, state).len();
-    let a = proofs::read(sheet);
-    let ProofRead::Read { m, k, .. } = a else {
-        return Part { place: 0, length };
+    let place = match proofs::read(sheet) {
+        Ok(proofs::Counts { m, k, .. }) if state < m => {
+            proofs::record_place(sheet, 6 + m * (2 + 2 * k), state)
+        }
+        _ => 0,
     };
-    if m <= state {
-        return Part { place: 0, length };
-    }
-    let place = proofs::record_place(sheet, 6 + m * (2 + 2 * k), state);
     Part { place, length }
 }
 
@@ -326,5 +320,5 @@ pub extern "C" fn trachuliem_why_apart(
     ensures value { result ≡ apart_of (states.apart n k words.now s t area.old).answer }
     ensures area_after { area.new ≡ (states.apart n k words.now s t area.old).area }
 {
-    apart_of(apart::why_apart(words, n, k, s, t, area))
+    Apart::from(apart::why_apart(words, n, k, s, t, area))
 }

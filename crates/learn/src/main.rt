@@ -2,20 +2,11 @@
 // number. What is printed is what `report` puts into its area; this program reads and writes, and does no more.
 #![tactic(auto)]
 
-ghost use Rattle.std.specs.Prelude.{◌≡◌, length};
-
-// Room for the text. The `ensures` gives only the length, which the text needs.
-fn room() -> [u8; 16384]
-    ensures { 16384 ≡ length result }
-{
-    [0; 16384]
-}
-
 fn main() {
     // One byte past the longest sheet, so that a longer one is seen.
     let mut bytes = [0u8; 1253];
     let size = io::read_full(0, &mut bytes);
-    let mut text = room();
+    let mut text = areas::zeros::<16384>();
     let end = report::report(&bytes[..size], &mut text);
     io::write_all(1, &text[..end]);
 }

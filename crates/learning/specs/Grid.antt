@@ -1,39 +1,77 @@
 -- The table in its lent area: cell (row, column) lies at row·W + column, and the other bytes of the first `size` are zero. W and `size` are
 -- 59 and 34,043 for the links of document 01.
-use Rattle.std.specs.Prelude.{◌≡◌, refl, ◌⊎◌, List, [], ◌∷◌, ◌++◌, ℕ, zero, suc, ◌+◌, ◌*◌, ◌-◌, ◌/◌, ◌%◌, ◌≤◌, ◌<◌, get_or, take, drop, set, eqb}
+use Rattle.std.specs.Prelude.{◌≡◌, refl, ◌⊎◌, Bool, true, false, Option, Some, None, is_some, IsSome, not, MatchOption, List, [], ◌∷◌, ◌++◌, ℕ, zero, suc, ◌+◌, ◌*◌, ◌-◌, ◌/◌, ◌%◌, ◌≤◌, ◌<◌, get_or, take, drop, set, eqb}
 use Rattle.std.proofs.Math.Path.{sym, ap, ap₂}
-use Rattle.std.proofs.Common.{◌∙◌, subst, inl, inr, mul-le-mul_right, suc-mul, div-add-mod', mod-lt, div-lt_iff_lt-mul, drop_of_length-le, length-append, length-take, length-drop, get_or-take, get_or-drop}
+use Rattle.std.proofs.Common.{◌∙◌, subst, inl, inr, mul-le-mul_right, suc-mul, div-add-mod', mod-lt, div-lt_iff_lt-mul, drop_of_length-le, length-append, length-take, length-drop, get_or-take, get_or-drop, take-suc}
 use Rattle.std.proofs.lemmas.List.{map-append, drop-append-le}
 use Rattle.std.proofs.Math.Decide.{dec_lt, dec_le}
 use native.Mathlib.Omega.{arith}
 use Rattle.std.proofs.Math.ListN.{length, get_or-append}
 use Rattle.std.proofs.Math.Seq.{ext_get_or}
-use Rattle.rules.specs.Tests.{eqs}
-use Rattle.rules.specs.Words.{Word, Below, below_append}
+use Rattle.rules.specs.Tests.{eqs, is_true, is_false}
+use Rattle.rules.specs.Words.{Word, below_append, below_drop}
 use Rattle.rules.specs.Seek.{seek, seek_same, sought}
 use Rattle.rules.specs.Table.{row, cells, state_of}
 use Rattle.rules.specs.Closing.{cells_get, cells_length}
 use Rattle.rules.specs.Areas.{put, put_inside, put_store, put_length, put_below, put_in, put_above}
-use Rattle.areas.specs.Store.{slot, stored, stored_at, stored_length, stored_more, Kept, kept_long}
+use Rattle.machine.specs.Lent.{letters_below}
+use Rattle.machine.specs.LentLaws.{letters_are_below, below_letters}
+
+-- letters below k, and more of them
+pub letters_append : (k : ℕ) (u v : Word) → letters_below k u ≡ true → letters_below k v ≡ true → letters_below k (u ++ v) ≡ true
+letters_append k u v a b = below_letters k (u ++ v) (below_append k u v (letters_are_below k u a) (letters_are_below k v b))
+
+pub letters_drop : (k i : ℕ) (w : Word) → letters_below k w ≡ true → letters_below k (drop i w) ≡ true
+letters_drop k i w b = below_letters k (drop i w) (below_drop k i w (letters_are_below k w b))
 
 -- ---- the cells as they stand
 -- the first c cells of row r
 unfoldable pub row_cells : ℕ → List ℕ → ℕ → ℕ → List ℕ
 row_cells W table c r = take c (drop (r * W) table)
 
--- the place in S of the word whose row has the cells of row r; m where there is none. Word j of S was taken from row rows j.
+-- the place x is found: none where it is the end
+abbrev pub Place : Option ℕ → ℕ → ℕ → Type 0
+Place found x end = MatchOption found (x ≡ end) (λ i. (x ≡ i) × (i < end))
+
+-- a test for none is the test for the end
+pub place_none : (found : Option ℕ) (x end : ℕ) → Place found x end → (b : Bool) → is_some found ≡ not b → eqb x end ≡ b
+place_none None x end h true e = is_true x end h
+place_none None x end h false e = cc
+place_none (Some i) x end h true e = cc
+place_none (Some i) x end h false e = is_false x end (λ q. lem q h.0 h.1)
+  where
+    lem : x ≡ end → x ≡ i → i < end → ⊥
+    lem q r l = omega arith
+
+-- and where x lies before the end it is found
+pub place_some : (found : Option ℕ) (x end : ℕ) → Place found x end → x < end → IsSome found
+place_some None x end h l = absurd (lem h l)
+  where
+    lem : x ≡ end → x < end → ⊥
+    lem h l = omega arith
+place_some (Some i) x end h l = refl
+
+-- whether word j of S, which was taken from row rows j, has the cells of row r
+abbrev pub same_as : ℕ → List ℕ → List ℕ → ℕ → ℕ → ℕ → Bool
+same_as W table rows c r j = eqs (row_cells W table c (get_or rows j 0)) (row_cells W table c r)
+
+-- the place in S of the word whose row has the cells of row r; m where there is none
 unfoldable pub state_in : ℕ → List ℕ → List ℕ → ℕ → ℕ → ℕ → ℕ
 unfolding row_cells seek eqs
-state_in W table rows m c r = seek (λ (j : ℕ). eqs (row_cells W table c (get_or rows j 0)) (row_cells W table c r)) 0 m
+state_in W table rows m c r = seek (same_as W table rows c r) 0 m
 
 pub state_in_le : (W : ℕ) (table rows : List ℕ) (m c r : ℕ) → state_in W table rows m c r ≤ m
 unfolding state_in
-state_in_le W table rows m c r = let s = sought (λ (j : ℕ). eqs (row_cells W table c (get_or rows j 0)) (row_cells W table c r)) 0 m in omega (arith, s.high)
+state_in_le W table rows m c r = let s = sought (same_as W table rows c r) 0 m in omega (arith, s.high)
+
+-- whether a row's cells are those of no word of S
+abbrev pub is_open : ℕ → List ℕ → List ℕ → ℕ → ℕ → ℕ → Bool
+is_open W table rows m c r = eqb (state_in W table rows m c r) m
 
 -- the first of the rows `first` up to `last` whose cells are those of no word of S; `last` where there is none
 unfoldable pub open_in : ℕ → List ℕ → List ℕ → ℕ → ℕ → ℕ → ℕ → ℕ
 unfolding state_in seek
-open_in W table rows m c first last = seek (λ (r : ℕ). eqb (state_in W table rows m c r) m) first (last - first)
+open_in W table rows m c first last = seek (is_open W table rows m c) first (last - first)
 
 -- the conjecture's word of state i / k and letter i % k: where the row goes, and the cell of the one-letter column
 unfoldable pub guess_in : ℕ → List ℕ → List ℕ → ℕ → ℕ → ℕ → ℕ → ℕ
@@ -103,68 +141,68 @@ module _ (W : ℕ) (f : ℕ → ℕ → ℕ) (first r low : ℕ) (new : List ℕ
 
 -- ---- a row of the area, filled column by column
 -- the cells of the columns `low` up to `high` of the row word w
-abbrev pub cells_from : (Word → ℕ) → List ℕ → ℕ → ℕ → Word → List ℕ
-cells_from ask columns low high w = cells ask (drop low (stored 94 columns high)) w
+abbrev pub cells_from : (Word → ℕ) → List Word → ℕ → ℕ → Word → List ℕ
+cells_from ask E low high w = cells ask (drop low (take high E)) w
 
-pub cells_from_length : (ask : Word → ℕ) (columns : List ℕ) (low high : ℕ) (w : Word) → length (cells_from ask columns low high w) ≡ high - low
-cells_from_length ask columns low high w = cells_length ask (drop low (stored 94 columns high)) w ∙ simp (length-drop, stored_length 94 columns high)
+pub cells_from_length : (ask : Word → ℕ) (E : List Word) (low high : ℕ) (w : Word) → high ≤ length E → length (cells_from ask E low high w) ≡ high - low
+cells_from_length ask E low high w h = cells_length ask (drop low (take high E)) w ∙ simp (length-drop, length-take) (omega arith)
 
-pub cells_from_none : (ask : Word → ℕ) (columns : List ℕ) (low : ℕ) (w : Word) → cells_from ask columns low low w ≡ []
+pub cells_from_none : (ask : Word → ℕ) (E : List Word) (low : ℕ) (w : Word) → low ≤ length E → cells_from ask E low low w ≡ []
 unfolding cells
-cells_from_none ask columns low w = ap (λ (E : List Word). cells ask E w) (drop_of_length-le (stored 94 columns low) {i = low} (omega (arith, stored_length 94 columns low)))
+cells_from_none ask E low w h = ap (λ (X : List Word). cells ask X w) (drop_of_length-le (take low E) {i = low} (simp length-take (omega arith)))
 
 -- one column more
-pub cells_from_more : (ask : Word → ℕ) (columns : List ℕ) (low c : ℕ) (w : Word) → low ≤ c → cells_from ask columns low (suc c) w ≡ cells_from ask columns low c w ++ (ask (w ++ slot 94 columns c) ∷ [])
+pub cells_from_more : (ask : Word → ℕ) (E : List Word) (low c : ℕ) (w : Word) → low ≤ c → c < length E
+    → cells_from ask E low (suc c) w ≡ cells_from ask E low c w ++ (ask (w ++ get_or E c []) ∷ [])
 unfolding cells
-cells_from_more ask columns low c w h =
-    let n = stored_length 94 columns c in
-    ap (λ (E : List Word). cells ask (drop low E) w) (stored_more 94 columns c)
-    ∙ ap (λ (E : List Word). cells ask E w) (drop-append-le low (stored 94 columns c) (slot 94 columns c ∷ []) (omega arith))
-    ∙ map-append (λ (e : Word). ask (w ++ e)) (drop low (stored 94 columns c)) (slot 94 columns c ∷ [])
+cells_from_more ask E low c w h l =
+    let e : Word = get_or E c [] in
+    ap (λ (X : List Word). cells ask (drop low X) w) (take-suc E c [] l)
+    ∙ ap (λ (X : List Word). cells ask X w) (drop-append-le low (take c E) (e ∷ []) (simp length-take (omega arith)))
+    ∙ map-append (λ (x : Word). ask (w ++ x)) (drop low (take c E)) (e ∷ [])
 
 -- the next cell is stored
-pub put_cell : (ask : Word → ℕ) (columns : List ℕ) (low c : ℕ) (w : Word) (v : ℕ) (row area : List ℕ) → low ≤ c → c < length area → v ≡ ask (w ++ slot 94 columns c)
-    → row ≡ put low (cells_from ask columns low c w) area → set row c v ≡ put low (cells_from ask columns low (c + 1) w) area
-put_cell ask columns low c w v row area h room is e =
-    let x = cells_from ask columns low c w in
-    let n : low + length x ≡ c = omega (arith, cells_from_length ask columns low c w) in
+pub put_cell : (ask : Word → ℕ) (E : List Word) (low c : ℕ) (w : Word) (v : ℕ) (row area : List ℕ) → low ≤ c → c < length E → c < length area → v ≡ ask (w ++ get_or E c [])
+    → row ≡ put low (cells_from ask E low c w) area → set row c v ≡ put low (cells_from ask E low (c + 1) w) area
+put_cell ask E low c w v row area h l room is e =
+    let x = cells_from ask E low c w in
+    let n : low + length x ≡ c = omega (arith, cells_from_length ask E low c w) in
     let one : suc c ≡ c + 1 = omega arith in
     ap₂ (λ (l : List ℕ) (i : ℕ). set l i v) e (sym n)
     ∙ put_store low x v area (omega arith)
-    ∙ ap (λ (l : List ℕ). put low l area) (ap (λ (y : ℕ). x ++ (y ∷ [])) is ∙ sym (cells_from_more ask columns low c w h) ∙ ap (λ (i : ℕ). cells_from ask columns low i w) one)
+    ∙ ap (λ (l : List ℕ). put low l area) (ap (λ (y : ℕ). x ++ (y ∷ [])) is ∙ sym (cells_from_more ask E low c w h l) ∙ ap (λ (i : ℕ). cells_from ask E low i w) one)
 
 -- a cell of them
-pub cells_from_at : (ask : Word → ℕ) (columns : List ℕ) (low high c : ℕ) (w : Word) → low + c < high → get_or (cells_from ask columns low high w) c 0 ≡ ask (w ++ get_or (stored 94 columns high) (low + c) [])
-cells_from_at ask columns low high c w h =
-    cells_get ask (drop low (stored 94 columns high)) w c (simp (length-drop, stored_length 94 columns high) (omega arith))
-    ∙ ap (λ (e : Word). ask (w ++ e)) (get_or-drop low (stored 94 columns high) c [])
+pub cells_at : (ask : Word → ℕ) (E : List Word) (low c : ℕ) (w : Word) → low + c < length E → get_or (cells ask (drop low E) w) c 0 ≡ ask (w ++ get_or E (low + c) [])
+cells_at ask E low c w h =
+    cells_get ask (drop low E) w c (simp length-drop (omega arith)) ∙ ap (λ (e : Word). ask (w ++ e)) (get_or-drop low E c [])
 
 -- ---- what the code's loop over rows asks for
--- cell (row, column) of the words and columns kept
-abbrev pub cell_of : (Word → ℕ) → ℕ → List ℕ → ℕ → List ℕ → ℕ → ℕ → ℕ → ℕ
-cell_of ask k s m columns c row' column = ask (row k (stored 48 s m) row' ++ get_or (stored 94 columns c) column [])
+-- cell (row, column) of the words S and the columns E
+abbrev pub cell_of : (Word → ℕ) → ℕ → List Word → List Word → ℕ → ℕ → ℕ
+cell_of ask k S E row' column = ask (row k S row' ++ get_or E column [])
 
-module _ (ask : Word → ℕ) (k : ℕ) (s columns : List ℕ) (m first r low high : ℕ) (old table : List ℕ) where
+module _ (ask : Word → ℕ) (k : ℕ) (S E : List Word) (first r low : ℕ) (old table : List ℕ) where
   -- a row's part is lent, and its cells are put
-  pub filled_row : (row' : List ℕ) → first ≤ r → low ≤ high → high ≤ 59 → r * 59 + 59 ≤ length table
-      → row' ≡ put low (cells_from ask columns low high (row k (stored 48 s m) r)) (take (r * 59 + 59 - r * 59) (drop (r * 59) table))
-      → Filled 59 (cell_of ask k s m columns high) first r low high old table
-      → Filled 59 (cell_of ask k s m columns high) first (r + 1) low high old (take (r * 59) table ++ (row' ++ drop (r * 59 + 59 - r * 59) (drop (r * 59) table)))
+  pub filled_row : (row' : List ℕ) → first ≤ r → low ≤ length E → length E ≤ 59 → r * 59 + 59 ≤ length table
+      → row' ≡ put low (cells ask (drop low E) (row k S r)) (take (r * 59 + 59 - r * 59) (drop (r * 59) table))
+      → Filled 59 (cell_of ask k S E) first r low (length E) old table
+      → Filled 59 (cell_of ask k S E) first (r + 1) low (length E) old (take (r * 59) table ++ (row' ++ drop (r * 59 + 59 - r * 59) (drop (r * 59) table)))
   filled_row row' begun up narrow room is F =
-      let w = row k (stored 48 s m) r in
-      let x = cells_from ask columns low high w in
-      let size = cells_from_length ask columns low high w in
+      let w = row k S r in
+      let x = cells ask (drop low E) w in
+      let size : length x ≡ length E - low = cells_length ask (drop low E) w ∙ simp length-drop in
       let n : r * 59 + 59 - r * 59 ≡ 59 = omega arith in
-      let e : low + length x ≡ high = omega arith in
+      let e : low + length x ≡ length E = omega arith in
       let one : suc r ≡ r + 1 = omega arith in
       let area : take (r * 59) table ++ (row' ++ drop (r * 59 + 59 - r * 59) (drop (r * 59) table)) ≡ put (r * 59 + low) x table =
       ap (λ (l : List ℕ). take (r * 59) table ++ (l ++ drop (r * 59 + 59 - r * 59) (drop (r * 59) table))) is
       ∙ put_inside (r * 59) (r * 59 + 59 - r * 59) low x table (omega arith) (omega arith) in
-      subst (λ (l : List ℕ). Filled 59 (cell_of ask k s m columns high) first (r + 1) low high old l) (sym area)
-      (subst (λ (i : ℕ). Filled 59 (cell_of ask k s m columns high) first i low high old (put (r * 59 + low) x table)) one
-      (subst (λ (h : ℕ). Filled 59 (cell_of ask k s m columns high) first (suc r) low h old (put (r * 59 + low) x table)) e
-      (filled_more 59 (cell_of ask k s m columns high) first r low x old table begun (omega arith) room (λ c l. cells_from_at ask columns low high c w (omega arith))
-      (subst (λ (h : ℕ). Filled 59 (cell_of ask k s m columns high) first r low h old table) (sym e) F))))
+      subst (λ (l : List ℕ). Filled 59 (cell_of ask k S E) first (r + 1) low (length E) old l) (sym area)
+      (subst (λ (i : ℕ). Filled 59 (cell_of ask k S E) first i low (length E) old (put (r * 59 + low) x table)) one
+      (subst (λ (h : ℕ). Filled 59 (cell_of ask k S E) first (suc r) low h old (put (r * 59 + low) x table)) e
+      (filled_more 59 (cell_of ask k S E) first r low x old table begun (omega arith) room (λ c l. cells_at ask E low c w (omega arith))
+      (subst (λ (h : ℕ). Filled 59 (cell_of ask k S E) first r low h old table) (sym e) F))))
 
 -- ---- what the area holds
 pub record Holds (W size : ℕ) (ask : Word → ℕ) (k : ℕ) (E S : List Word) (table : List ℕ) : Type 0 where
@@ -197,43 +235,31 @@ filled_beyond {W} {size} {first} {last} {low} {high} {f} {old} {new} pos room F 
         go (yes l) = let b = (div-lt_iff_lt-mul pos).0 l in absurd (omega arith)
         go (no l) = omega arith
 
--- row r of words kept in slots
-pub row_kept : (width k : ℕ) (s : List ℕ) (m r : ℕ) → 0 < k → 0 < r → r < 1 + m * k → row k (stored width s m) r ≡ slot width s ((r - 1) / k) ++ ((r - 1) % k ∷ [])
+-- row r of S
+pub row_at : (k : ℕ) (S : List Word) (r : ℕ) → 0 < r → row k S r ≡ get_or S ((r - 1) / k) [] ++ ((r - 1) % k ∷ [])
 unfolding row
-row_kept width k s m zero pos h l = absurd (omega arith)
-row_kept width k s m (suc r) pos h l =
-    let p : suc r - 1 ≡ r = omega arith in
-    let j : r / k < m = (div-lt_iff_lt-mul pos).1 (omega arith) in
-    rw (p, stored_at width s m (r / k) j)
+row_at k S zero h = absurd (omega arith)
+row_at k S (suc r) h = let p : suc r - 1 ≡ r = omega arith in rw p
 
-pub row_below : {width k : ℕ} {s : List ℕ} {m : ℕ} (r : ℕ) → Kept width k s m → 0 < k → r < 1 + m * k → Below k (row k (stored width s m) r)
+pub row_below : (k : ℕ) (S : List Word) (r : ℕ) → ((j : ℕ) → j < length S → letters_below k (get_or S j []) ≡ true) → 0 < k → r < 1 + length S * k → letters_below k (row k S r) ≡ true
 unfolding row
-row_below {width} {k} {s} {m} zero K pos h = tt
-row_below {width} {k} {s} {m} (suc r) K pos h =
-    let j : r / k < m = (div-lt_iff_lt-mul pos).1 (omega arith) in
-    below_append k (get_or (stored width s m) (r / k) []) (r % k ∷ []) (K.letters (r / k) (rw (stored_length width s m) j)) (mod-lt r pos, tt)
-
-pub row_long : {width k : ℕ} {s : List ℕ} {m : ℕ} (r : ℕ) → Kept width k s m → 0 < k → 0 < width → r < 1 + m * k → length (row k (stored width s m) r) ≤ width
-unfolding row
-row_long {width} {k} {s} {m} zero K pos some h = omega arith
-row_long {width} {k} {s} {m} (suc r) K pos some h =
-    let j : r / k < m = (div-lt_iff_lt-mul pos).1 (omega arith) in
-    let l = kept_long K (r / k) j in
-    rw (stored_at width s m (r / k) j) (simp length-append (omega arith))
+row_below k S zero letters pos h = refl
+row_below k S (suc r) letters pos h =
+    let j : r / k < length S = (div-lt_iff_lt-mul pos).1 (omega arith) in
+    let w : Word = get_or S (r / k) [] in
+    below_letters k (w ++ (r % k ∷ [])) (below_append k w (r % k ∷ []) (letters_are_below k w (letters (r / k) j)) (mod-lt r pos, tt))
 
 -- a word of S is put, and the row's letter is stored after it
-pub row_put : (width k : ℕ) (s : List ℕ) (m r end : ℕ) (area word : List ℕ) → 0 < k → k ≤ 12 → 0 < r → r < 1 + m * k
-    → end ≡ 0 + length (slot width s ((r - 1) / k)) → area ≡ put 0 (slot width s ((r - 1) / k)) word → length (slot width s ((r - 1) / k)) < length word
-    → (end + 1 ≡ length (row k (stored width s m) r)) × (set area end ((r - 1) % k % 256) ≡ put 0 (row k (stored width s m) r) word)
-row_put width k s m r end area word pos few h l e a room =
-    let w = slot width s ((r - 1) / k) in
-    let is = row_kept width k s m r pos h l in
-    let low = mod-lt (r - 1) pos in
-    let v : (r - 1) % k % 256 ≡ (r - 1) % k = omega arith in (
+pub row_put : (k : ℕ) (S : List Word) (r end : ℕ) (area word : List ℕ) → 0 < r
+    → end ≡ 0 + length (get_or S ((r - 1) / k) []) → area ≡ put 0 (get_or S ((r - 1) / k) []) word → length (get_or S ((r - 1) / k) []) < length word
+    → (end + 1 ≡ length (row k S r)) × (set area end ((r - 1) % k) ≡ put 0 (row k S r) word)
+row_put k S r end area word h e a room =
+    let w : Word = get_or S ((r - 1) / k) [] in
+    let is = row_at k S r h in (
       omega (arith, ap length is ∙ length-append w ((r - 1) % k ∷ [])),
-      ap₂ (λ (x : List ℕ) (i : ℕ). set x i ((r - 1) % k % 256)) a e
-          ∙ put_store 0 w ((r - 1) % k % 256) word (omega arith)
-          ∙ ap (λ (x : Word). put 0 x word) (ap (λ (x : ℕ). w ++ (x ∷ [])) v ∙ sym is),
+      ap₂ (λ (x : List ℕ) (i : ℕ). set x i ((r - 1) % k)) a e
+          ∙ put_store 0 w ((r - 1) % k) word (omega arith)
+          ∙ ap (λ (x : Word). put 0 x word) (sym is),
     )
 
 -- rows of the words that stood there before

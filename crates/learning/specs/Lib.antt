@@ -1,5 +1,6 @@
 pub mod Learner
 pub mod Grid
+pub mod Laid
 pub mod Desk
 pub mod ClosingLaws
 pub mod Cut
@@ -9,6 +10,7 @@ pub mod Bounds
 pub mod Start
 pub mod Modelled
 pub mod Turns
+pub mod Desks
 pub mod Answers
 pub mod Leaving
 pub mod Demand2

@@ -4,42 +4,42 @@
 // `rounds` (6), and `finish` for the proof sheet; rule 5 is the search's, which is a crate of its own, since it reads the machine's words.
 #![tactic(auto)]
 
-ghost use Rattle.std.specs.Prelude.{◌≡◌, ℕ, ◌+◌, ◌*◌, ◌<◌, ◌≤◌, length, take};
+ghost use Rattle.std.specs.Prelude.{◌≡◌, ◌≤◌, length, take, IfOk};
 ghost use Rattle.rules.specs.Areas.{over, zeros};
 ghost use Rattle.rules.specs.Sheets.{CX, word_bytes};
-ghost use Rattle.rules.specs.Links.{stopped};
-ghost use Rattle.machine.specs.Answers.{checked};
-ghost use Rattle.machine.specs.Lent.{link};
+ghost use Rattle.machine.specs.Answers.{answer};
+ghost use Rattle.machine.specs.Lent.{Sound};
+ghost use Rattle.machine.specs.Linked.{linked};
 ghost use Rattle.learning.specs.Learner.{learn_check, stop_leaves};
 ghost use Rattle.learning.specs.Learner as learner;
 ghost use Rattle.learning.specs.Answers.{learnt};
-ghost use Rattle.learning.specs.Turns.{Turn};
+ghost use Rattle.learning.specs.Desks.{stop_at, Turning};
 ghost use Rattle.learning.specs.Leaving.{left_by};
 
 mod closing;
 mod rounds;
 mod table;
 
+use areas::store::Store;
 use areas::{records, store};
-use machine::Checked;
-use machine::refusal::Refusal;
+use machine::{Lent, Refusal};
+use rounds::Stop;
+use table::Desk;
 
-// What the learner answers: the words in S, the rounds past, the cells, and the bytes written to the sheet area; or a refusal.
-#[derive(Clone, Copy)]
+// What is counted: the words in S, the rounds past, the cells, and the bytes written to the sheet area.
+#[derive(Clone, Copy, Debug, PartialEq, Eq)]
+pub struct Counts {
+    pub states: usize,
+    pub rounds: usize,
+    pub cells: usize,
+    pub bytes: usize,
+}
+
+// How learning ends: the model is done, or a counterexample is left.
+#[derive(Clone, Copy, Debug, PartialEq, Eq)]
 pub enum Learnt {
-    Done {
-        states: usize,
-        rounds: usize,
-        cells: usize,
-        bytes: usize,
-    },
-    Open {
-        states: usize,
-        rounds: usize,
-        cells: usize,
-        bytes: usize,
-    },
-    Refused(Refusal),
+    Done(Counts),
+    Open(Counts),
 }
 
 // The first `count` bytes are set to zero.
@@ -47,100 +47,94 @@ fn zero(area: &mut [u8], count: usize)
     requires { count ≤ length area.old }
     ensures { area.new ≡ over (zeros count) area.old }
 {
-    let mut i: usize = 0;
-    while i < count {
-        area[i] = 0;
-        i += 1;
-    }
+    area[..count].fill(0);
 }
 
-// The refusals that come before learning: 7, machine, 8, 9.
-fn learn_check(
-    words: &[u16],
+// The refusals that come before learning: 7, machine, 8, 9. Its parameters are the operation's, in the paper's order.
+fn learn_check<'a>(
+    words: &'a [u16],
     n: usize,
     k: usize,
     limit: usize,
     most: usize,
     table: &[u8],
     sheet: &[u8],
-) -> Checked
-    ensures { checked result ≡ learn_check n k words.now limit most table.now sheet.now }
+) -> Result<Lent<'a>, Refusal>
+    ensures refusal { answer (λ _. tt) result ≡ learn_check n k words.now limit most table.now sheet.now }
+    ensures machine { IfOk result (λ m. (m.words.now ≡ words.now) × (m.n ≡ n) × (m.k ≡ k) × Sound m.n m.k m.words.now) }
 {
-    if !machine::within(1, 48, limit) {
-        return Checked::Refused(Refusal::BadLimit);
+    if !machine::within(1, 48, limit) || 47 < most {
+        return Err(Refusal::BadLimit);
     }
-    if 47 < most {
-        return Checked::Refused(Refusal::BadLimit);
-    }
-    let c = machine::check(words, n, k);
-    if let Checked::Refused(r) = c {
-        return Checked::Refused(r);
-    }
+    let machine = Lent::new(words, n, k)?;
     if table.len() < 34043 {
-        return Checked::Refused(Refusal::SmallArea);
+        return Err(Refusal::SmallArea);
     }
     if sheet.len() < 9368 {
-        return Checked::Refused(Refusal::SmallSheet);
+        return Err(Refusal::SmallSheet);
     }
-    Checked::Sound
+    Ok(machine)
 }
 
 // Open's record: CX, the length and the letters of the counterexample.
-fn put_counterexample(sheet: &mut [u8], found: &[u8], left: usize)
-    requires { (left ≤ length found.now) × (left ≤ 94) × (9368 ≤ length sheet.old) }
-    ensures { sheet.new ≡ over (word_bytes CX (take left found.now)) sheet.old }
+fn put_counterexample(sheet: &mut [u8], w: &[u8])
+    requires { (length w.now ≤ 94) × (9368 ≤ length sheet.old) }
+    ensures { sheet.new ≡ over (word_bytes CX w.now) sheet.old }
 {
     records::put_mark(sheet, 0, b"CX");
-    sheet[2] = (left % 256) as u8;
-    store::put_letters(sheet, 3, &found[..left]);
+    sheet[2] = w.len() as u8;
+    store::put_letters(sheet, 3, w);
 }
 
 // What is left where the rounds stopped: 10 if there are more words than the limit, the counterexample if one is left, and else the proof
-// sheet. `s` and `rows` stand here for the contract, which says what the desk holds.
+// sheet. The areas stay apart, as the operation is lent them.
 fn leave(
-    words: &[u16],
-    n: usize,
-    k: usize,
+    desk: &Desk,
     limit: usize,
-    past: usize,
-    s: &[u8],
-    rows: &[usize],
-    m: usize,
-    columns: &[u8],
+    stop: Stop,
     model: &[u16],
     found: &[u8],
-    left: usize,
     table: &mut [u8],
     sheet: &mut [u8],
-) -> Learnt
-    requires turn { Turn n k words.now past s.now rows.now m columns.now table.old model.now found.now left }
-    requires in_bounds { (96 ≤ length found.now) × (9368 ≤ length sheet.old) }
-    ensures { left_by (learnt result) table.new sheet.new ≡ stop_leaves k (link n k words.now) limit (stopped k (link n k words.now) past) table.old sheet.old }
+) -> Result<Learnt, Refusal>
+    requires turn { Turning desk.now stop.past table.old model.now found.now stop.left }
+    requires room { 9368 ≤ length sheet.old }
+    ensures { let m = desk.now.machine in
+        left_by (learnt result) table.new sheet.new
+        ≡ stop_leaves m.k (linked m) limit (stop_at desk.now stop.past) table.old sheet.old }
 {
-    if limit < m {
+    let states = desk.s.len();
+    if limit < states {
         zero(table, 34043);
-        return Learnt::Refused(Refusal::OverLimit);
+        return Err(Refusal::OverLimit);
     }
-    let cells = (1 + m * k) * (k + past);
-    if 0 < left {
-        put_counterexample(sheet, found, left);
-        return Learnt::Open {
-            states: m,
-            rounds: past,
-            cells: cells,
-            bytes: 3 + left,
-        };
+    let rounds = stop.past;
+    let cells = (1 + states * desk.machine.k) * desk.columns.len();
+    if let Some(length) = stop.left {
+        put_counterexample(sheet, &found[..length]);
+        return Ok(Learnt::Open(Counts {
+            states,
+            rounds,
+            cells,
+            bytes: 3 + length,
+        }));
     }
-    let bytes = finish::finish(words, n, k, model, m, columns, k + past, sheet);
-    Learnt::Done {
-        states: m,
-        rounds: past,
-        cells: cells,
-        bytes: bytes,
-    }
+    let model = Lent {
+        words: model,
+        n: states,
+        k: desk.machine.k,
+    };
+    let bytes = finish::finish(&desk.machine, &model, &desk.columns, sheet);
+    Ok(Learnt::Done(Counts {
+        states,
+        rounds,
+        cells,
+        bytes,
+    }))
 }
 
-// Learns the machine's smallest model within `limit` states and `most` rounds. Nothing is written before the checks are passed.
+// Learns the machine's smallest model within `limit` states and `most` rounds. It is lent words, n and k as C has them, and writes nothing
+// before the checks are passed.
 pub fn learn(
     words: &[u16],
     n: usize,
@@ -149,35 +143,19 @@ pub fn learn(
     most: usize,
     table: &mut [u8],
     sheet: &mut [u8],
-) -> Learnt
+) -> Result<Learnt, Refusal>
     ensures { left_by (learnt result) table.new sheet.new ≡ learner.learn n k words.now limit most table.old sheet.old }
 {
-    let c = learn_check(words, n, k, limit, most, table, sheet);
-    if let Checked::Refused(r) = c {
-        return Learnt::Refused(r);
-    }
+    let machine = learn_check(words, n, k, limit, most, table, sheet)?;
     zero(table, 34043);
-    let mut s = [0u8; 2304];
-    let mut rows = [0usize; 48];
-    let mut columns = [0u8; 5546];
+    let mut desk = Desk {
+        machine,
+        s: Store::new(),
+        rows: [0; 48],
+        columns: Store::new(),
+    };
     let mut model = [0u16; 576];
     let mut found = [0u8; 96];
-    let mut word = [0u8; 141];
-    let stop = rounds::rounds(
-        words,
-        n,
-        k,
-        most,
-        table,
-        &mut s,
-        &mut rows,
-        &mut columns,
-        &mut model,
-        &mut found,
-        &mut word,
-    );
-    leave(
-        words, n, k, limit, stop.past, &s, &rows, stop.words, &columns, &model, &found, stop.left,
-        table, sheet,
-    )
+    let stop = desk.rounds(most, &mut table[..34043], &mut model, &mut found);
+    leave(&desk, limit, stop, &model, &found, table, sheet)
 }

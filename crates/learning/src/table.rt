@@ -1,116 +1,31 @@
-// The observation table in the lent area: cell (row, column) lies at row·59 + column. The words of S and the columns are kept in slots, of
-// 48 and 94 places. S is kept by its rows too: the cells of a word of S stand in the table at the row it was taken from.
-ghost use Rattle.std.specs.Prelude.{◌≡◌, true, ◌++◌, ℕ, ◌+◌, ◌*◌, ◌-◌, ◌<◌, ◌≤◌, length, get_or, take, drop};
+// The learner's desk, and the observation table in the lent area: cell (row, column) lies at row·59 + column. S is kept by its rows too:
+// the cells of a word of S stand in the table at the row it was taken from.
+ghost use Rattle.std.specs.Prelude.{◌≡◌, true, ◌++◌, [], ◌+◌, ◌*◌, ◌<◌, ◌≤◌, length, get_or, take, drop};
 ghost use Rattle.rules.specs.Areas.{put};
-ghost use Rattle.rules.specs.Words.{Below};
-ghost use Rattle.rules.specs.Machine.{Machine, lent, ask};
 ghost use Rattle.rules.specs.Table.{row, cells};
-ghost use Rattle.machine.specs.Lent.{link, Sound};
-ghost use Rattle.areas.specs.Store.{slot, stored, Kept};
-ghost use Rattle.learning.specs.Grid.{row_cells, state_in, open_in, cells_from, cell_of, Filled};
 ghost use Rattle.rules.specs.Tests.{eqs};
+ghost use Rattle.machine.specs.Lent.{letters_below};
+ghost use Rattle.learning.specs.Grid.{row_cells, Filled, Place};
+ghost use Rattle.learning.specs.Laid.{Laid};
 
-use areas::store::copy_word;
+use areas::store;
+use areas::store::Store;
+use machine::Lent;
 
-// The word of row `r` is put to the start of `word`: empty for row 0, and else a word of S and a letter. Answers its length.
-pub(crate) fn row_word(s: &[u8], m: usize, k: usize, r: usize, word: &mut [u8]) -> usize
-    requires kept { Kept 48 k s.now m }
-    requires le_k { (1 ≤ k) × (k ≤ 12) × (r < 1 + m * k) × (48 ≤ length word.old) }
-    ensures { (result ≡ length (row k (stored 48 s.now m) r)) × (word.new ≡ put 0 (row k (stored 48 s.now m) r) word.old) }
-{
-    if r == 0 {
-        return 0;
-    }
-    let j = (r - 1) / k;
-    let end = copy_word(s, 48, j, word, 0);
-    word[end] = ((r - 1) % k % 256) as u8;
-    end + 1
-}
-
-// The answer to the first `len` letters of `word` followed by the column `c`. These letters stay.
-pub(crate) fn ask_column(
-    words: &[u16],
-    n: usize,
-    k: usize,
-    word: &mut [u8],
-    len: usize,
-    columns: &[u8],
-    count: usize,
-    c: usize,
-) -> u8
-    requires sound { Sound n k words.now }
-    requires kept { Kept 94 k columns.now count }
-    requires c_lt_count { (c < count) × (len ≤ 48) × (141 ≤ length word.old) × Below k (take len word.old) }
-    ensures { (result ≡ ask (link n k words.now) (take len word.old ++ slot 94 columns.now c)) × (take len word.new ≡ take len word.old) }
-{
-    let end = copy_word(columns, 94, c, word, len);
-    machine::last_output(words, n, k, &word[..end])
-}
-
-// The cells of one row, of the columns `from` up to `to`. It knows no row number.
-pub(crate) fn fill_row(
-    row: &mut [u8],
-    words: &[u16],
-    n: usize,
-    k: usize,
-    word: &mut [u8],
-    len: usize,
-    columns: &[u8],
-    from: usize,
-    to: usize,
-)
-    requires sound { Sound n k words.now }
-    requires kept { Kept 94 k columns.now to }
-    requires from_le_to { (from ≤ to) × (to ≤ length row.old) × (len ≤ 48) × (141 ≤ length word.old) × Below k (take len word.old) }
-    ensures { row.new ≡ put from (cells_from (ask (link n k words.now)) columns.now from to (take len word.old)) row.old }
-{
-    let mut c = from;
-    while c < to {
-        row[c] = ask_column(words, n, k, word, len, columns, to, c);
-        c += 1;
-    }
-}
-
-// The cells of the rows `first` up to `last`, of the columns `from` up to `to`: one row after the other is lent on from its place.
-pub(crate) fn fill_rows(
-    table: &mut [u8],
-    words: &[u16],
-    n: usize,
-    k: usize,
-    s: &[u8],
-    m: usize,
-    columns: &[u8],
-    word: &mut [u8],
-    first: usize,
-    last: usize,
-    from: usize,
-    to: usize,
-)
-    requires sound { Sound n k words.now × Kept 48 k s.now m × Kept 94 k columns.now to }
-    requires first_le_last { (first ≤ last) × (last ≤ 1 + m * k) × (last * 59 ≤ length table.old) × (from ≤ to) × (to ≤ 59) × (141 ≤ length word.old) }
-    ensures { Filled 59 (cell_of (ask (link n k words.now)) k s.now m columns.now to) first last from to table.old table.new }
-{
-    let mut r = first;
-    while r < last {
-        let len = row_word(s, m, k, r, word);
-        let at = r * 59;
-        fill_row(
-            &mut table[at..at + 59],
-            words,
-            n,
-            k,
-            word,
-            len,
-            columns,
-            from,
-            to,
-        );
-        r += 1;
-    }
+// The machine that is learnt, the words of S with the row that each was taken from, and the columns. Fixed memory: a slot of a store has
+// letters alone, so that the rows stand beside the words. The table's area is lent beside it: a struct with a `&mut` could keep no fact in
+// a ghost field.
+#[derive(Drop)]
+pub(crate) struct Desk<'a> {
+    pub(crate) machine: Lent<'a>,
+    pub(crate) s: Store<48, 2304>,
+    pub(crate) rows: [usize; 48],
+    pub(crate) columns: Store<94, 5546>,
+    pub(crate) ghost laid: { Laid machine.n machine.k machine.words.now s rows columns },
 }
 
 // Whether two rows have the same cells in the first `c` columns.
-pub(crate) fn same_cells(table: &[u8], r: usize, q: usize, c: usize) -> bool
+fn same_cells(table: &[u8], r: usize, q: usize, c: usize) -> bool
     requires { (r * 59 + c ≤ length table.now) × (q * 59 + c ≤ length table.now) }
     ensures { result ≡ eqs (row_cells 59 table.now c r) (row_cells 59 table.now c q) }
 {
@@ -119,41 +34,89 @@ pub(crate) fn same_cells(table: &[u8], r: usize, q: usize, c: usize) -> bool
     check::same(&table[a..a + c], &table[b..b + c])
 }
 
-// The place in S of the word with the cells of row `r`; `m` where there is none.
-pub(crate) fn state_of(table: &[u8], rows: &[usize; 48], m: usize, c: usize, r: usize) -> usize
-    requires m_bound { (m ≤ 48) × (r * 59 + c ≤ length table.now) }
-    requires by_index { (j : ℕ) → j < m → get_or rows.now j 0 * 59 + c ≤ length table.now }
-    ensures { result ≡ state_in 59 table.now rows.now m c r }
-{
-    let mut j: usize = 0;
-    while j < m {
-        if same_cells(table, rows[j], r, c) {
-            return j;
-        }
-        j += 1;
-    }
-    j
-}
+impl<'a> Desk<'a> {
+    ghost use Rattle.learning.specs.Desks.{asked, row_count, cell, state_at, open_at};
 
-// The first of the rows from `from` on whose cells are those of no word in S; `last` where there is none.
-pub(crate) fn open_row(
-    table: &[u8],
-    rows: &[usize; 48],
-    m: usize,
-    c: usize,
-    from: usize,
-    last: usize,
-) -> usize
-    requires m_bound { (m ≤ 48) × (from ≤ last) × (last * 59 ≤ length table.now) × (c ≤ 59) }
-    requires by_index { (j : ℕ) → j < m → get_or rows.now j 0 * 59 + c ≤ length table.now }
-    ensures { result ≡ open_in 59 table.now rows.now m c from last }
-{
-    let mut r = from;
-    while r < last {
-        if state_of(table, rows, m, c, r) == m {
-            return r;
+    // The word of row `r` is put to the start of `word`: empty for row 0, and else a word of S and a letter. Answers its length.
+    pub(crate) fn row_word(&self, r: usize, word: &mut [u8]) -> usize
+        requires r_bound { r < row_count self.now }
+        requires room { 48 ≤ length word.old }
+        ensures value { result ≡ length (row self.now.machine.k self.now.s r) }
+        ensures word_after { word.new ≡ put 0 (row self.now.machine.k self.now.s r) word.old }
+    {
+        if r == 0 {
+            return 0;
         }
-        r += 1;
+        let k = self.machine.k;
+        let end = self.s.copy_word((r - 1) / k, word, 0);
+        word[end] = ((r - 1) % k) as u8;
+        end + 1
     }
-    r
+
+    // The answer to the first `len` letters of `word` followed by the column `c`. These letters stay; the column is put behind them, so that
+    // the word is lent whole and its length beside it.
+    fn ask_column(&self, c: usize, word: &mut [u8], len: usize) -> u8
+        requires there { c < length self.now.columns }
+        requires room { (len ≤ 48) × (141 ≤ length word.old) }
+        requires letters { letters_below self.now.machine.k (take len word.old) ≡ true }
+        ensures value { result ≡ asked self.now (take len word.old ++ get_or self.now.columns c []) }
+        ensures stays { take len word.new ≡ take len word.old }
+    {
+        let column = self.columns.word(c);
+        let end = len + column.len();
+        store::put_letters(word, len, column);
+        self.machine.last_output(&word[..end])
+    }
+
+    // The cells of one row, of the columns from `from` on. It knows no row number.
+    fn fill_row(&self, row: &mut [u8], word: &mut [u8], len: usize, from: usize)
+        requires from_in { (from ≤ length self.now.columns) × (length self.now.columns ≤ length row.old) }
+        requires room { (len ≤ 48) × (141 ≤ length word.old) }
+        requires letters { letters_below self.now.machine.k (take len word.old) ≡ true }
+        ensures { row.new ≡ put from (cells (asked self.now) (drop from self.now.columns) (take len word.old)) row.old }
+    {
+        for c in from..self.columns.len() {
+            row[c] = self.ask_column(c, word, len);
+        }
+    }
+
+    // The cells of the rows `first` up to `last`, of the columns from `from` on: one row after the other is lent on from its place.
+    pub(crate) fn fill_rows(&self, table: &mut [u8], first: usize, last: usize, from: usize)
+        requires rows_in { (first ≤ last) × (last ≤ row_count self.now) × (last * 59 ≤ length table.old) }
+        requires from_in { from ≤ length self.now.columns }
+        ensures { Filled 59 (cell self.now) first last from (length self.now.columns) table.old table.new }
+    {
+        let mut word = [0u8; 141];
+        for r in first..last {
+            let len = self.row_word(r, &mut word);
+            let at = r * 59;
+            self.fill_row(&mut table[at..at + 59], &mut word, len, from);
+        }
+    }
+
+    // The place in S of the word with the cells of row `r`.
+    pub(crate) fn state_of(&self, table: &[u8], r: usize) -> Option<usize>
+        requires { (r < row_count self.now) × (34043 ≤ length table.now) }
+        ensures { Place result (state_at self.now table.now r) (length self.now.s) }
+    {
+        for j in 0..self.s.len() {
+            if same_cells(table, self.rows[j], r, self.columns.len()) {
+                return Some(j);
+            }
+        }
+        None
+    }
+
+    // The first of the rows from `from` on whose cells are those of no word in S.
+    pub(crate) fn open_row(&self, table: &[u8], from: usize) -> Option<usize>
+        requires { (from ≤ row_count self.now) × (34043 ≤ length table.now) }
+        ensures { Place result (open_at self.now table.now from) (row_count self.now) }
+    {
+        for r in from..1 + self.s.len() * self.machine.k {
+            if self.state_of(table, r).is_none() {
+                return Some(r);
+            }
+        }
+        None
+    }
 }

@@ -1,27 +1,20 @@
 -- Document 01, 'The machine' and 'Refusal numbers': lent words and a question, with their refusals in order.
-use Rattle.std.specs.Prelude.{◌≡◌, Bool, true, ◌&&◌, List, [], ◌∷◌, ℕ, ◌+◌, ◌*◌, ◌/◌, ◌≤◌, ◌<◌, length, get_or, ltb, leb}
+use Rattle.std.specs.Prelude.{◌≡◌, Bool, List, ℕ, ◌+◌, ◌*◌, ◌/◌, ◌≤◌, ◌<◌, length, get_or, ltb, leb}
+use Rattle.std.specs.List.{list_all}
 use Rattle.rules.specs.Words.{Word}
 use Rattle.rules.specs.Machine.{Machine, lent, ask}
 use Rattle.rules.specs.Answer.{Answer, gives, demand, within, ◌>>◌}
 
--- every number of a list passes
-unfoldable pub all_pass : (ℕ → Bool) → List ℕ → Bool
-all_pass p [] = true
-all_pass p (x ∷ xs) = p x && all_pass p xs
-
 -- every next state is below n
-unfoldable pub next_below : ℕ → List ℕ → Bool
-unfolding all_pass
-next_below n words = all_pass (λ (x : ℕ). ltb (x / 256) n) words
+abbrev pub next_below : ℕ → List ℕ → Bool
+next_below n words = list_all (λ (x : ℕ). ltb (x / 256) n) words
 
 -- every letter is below k
-unfoldable pub letters_below : ℕ → Word → Bool
-unfolding all_pass
-letters_below k w = all_pass (λ (a : ℕ). ltb a k) w
+abbrev pub letters_below : ℕ → Word → Bool
+letters_below k w = list_all (λ (a : ℕ). ltb a k) w
 
 -- lent words: 3, then 1 or 5, then 4
 unfoldable pub lent_check : ℕ → ℕ → List ℕ → Answer (Unit {0})
-unfolding next_below
 lent_check n k words = do
   demand (within 1 48 n) 3
   demand (within 1 12 k) 3
@@ -50,7 +43,7 @@ pub record Sound (n k : ℕ) (words : List ℕ) : Type 0 where
 
 -- question: machine, then 6 for the empty word or a letter not below k; its answer is the last output
 unfoldable pub question : ℕ → ℕ → List ℕ → Word → Answer ℕ
-unfolding lent_check letters_below ask lent
+unfolding lent_check ask lent
 question n k words w = do
   lent_check n k words
   demand (leb 1 (length w)) 6

@@ -1,4 +1,4 @@
--- What the tests of lent words and of letters mean, and what a loop over them asks for.
+-- What the tests of lent words and of letters mean, and what a run over letters asks for.
 use Rattle.std.specs.Prelude.{◌≡◌, Bool, true, false, length, get_or, drop, ltb, leb}
 use Rattle.std.proofs.Math.Path.{refl}
 use Rattle.std.proofs.Common.{not-suc-le-zero, le_of_suc-le-suc, add-one, arith}
@@ -12,44 +12,27 @@ use Rattle.rules.specs.Words.{Word, Below}
 use Rattle.rules.specs.Search.{walk}
 use Rattle.rules.specs.Machine.{Machine, Complete, lent, last_from}
 use Rattle.rules.specs.Answer.{Answer, refused, gives, demand, within, ◌>>◌}
-use Rattle.machine.specs.Lent.{all_pass, next_below, letters_below, lent_check, Steps, Sound, link}
+use Rattle.std.specs.List.{list_all}
+use Rattle.machine.specs.Lent.{next_below, letters_below, lent_check, Steps, Sound, link}
 
--- ---- every number of a list passes
-module _ (p : ℕ → Bool) where
-  pub all_at : (xs : List ℕ) (i : ℕ) → all_pass p xs ≡ true → i < length xs → p (get_or xs i 0) ≡ true
-  unfolding all_pass
-  all_at [] i e h = absurd (not-suc-le-zero h)
-  all_at (x ∷ xs) zero e h = (and_split (p x) (all_pass p xs) e).0
-  all_at (x ∷ xs) (suc i) e h = all_at xs i (and_split (p x) (all_pass p xs) e).1 (le_of_suc-le-suc h)
+-- what all letters and words pass, each does
+pub all_at : (p : ℕ → Bool) (xs : List ℕ) (i : ℕ) → list_all p xs ≡ true → i < length xs → p (get_or xs i 0) ≡ true
+all_at p [] i e h = absurd (not-suc-le-zero h)
+all_at p (x ∷ xs) zero e h = (and_split (p x) (list_all p xs) e).0
+all_at p (x ∷ xs) (suc i) e h = all_at p xs i (and_split (p x) (list_all p xs) e).1 (le_of_suc-le-suc h)
 
-  pub at_all : (xs : List ℕ) → ((i : ℕ) → i < length xs → p (get_or xs i 0) ≡ true) → all_pass p xs ≡ true
-  unfolding all_pass
-  at_all [] f = refl
-  at_all (x ∷ xs) f = rw (f 0 (omega arith)) (at_all xs (λ i h. f (suc i) (omega arith)))
-
-  -- from place i on: one that passes, one that does not, the end
-  pub all_passes : (xs : List ℕ) (i : ℕ) → i < length xs → p (get_or xs i 0) ≡ true → all_pass p (drop i xs) ≡ all_pass p (drop (i + 1) xs)
-  unfolding all_pass
-  all_passes xs i h t = rw (add-one, drop-cons xs i 0, t)
-
-  pub all_fails : (xs : List ℕ) (i : ℕ) → i < length xs → p (get_or xs i 0) ≡ false → all_pass p (drop i xs) ≡ false
-  unfolding all_pass
-  all_fails xs i h t = rw (drop-cons xs i 0, t)
-
-  pub all_ends : (xs : List ℕ) (i : ℕ) → length xs ≤ i → all_pass p (drop i xs) ≡ true
-  unfolding all_pass
-  all_ends xs i h = rw drop_of_length-le
+pub at_all : (p : ℕ → Bool) (xs : List ℕ) → ((i : ℕ) → i < length xs → p (get_or xs i 0) ≡ true) → list_all p xs ≡ true
+at_all p [] f = refl
+at_all p (x ∷ xs) f = rw (f 0 (omega arith)) (at_all p xs (λ i h. f (suc i) (omega arith)))
 
 -- ---- letters
 pub letters_are_below : (k : ℕ) (w : Word) → letters_below k w ≡ true → Below k w
-unfolding letters_below all_pass
 letters_are_below k [] e = tt
 letters_are_below k (a ∷ w) e =
-    let s = and_split (ltb a k) (all_pass (λ (a : ℕ). ltb a k) w) e in
+    let s = and_split (ltb a k) (list_all (λ (a : ℕ). ltb a k) w) e in
     (ltb_yes a k s.0, letters_are_below k w s.1)
 
 pub below_letters : (k : ℕ) (w : Word) → Below k w → letters_below k w ≡ true
-unfolding letters_below all_pass
 below_letters k [] b = refl
 below_letters k (a ∷ w) b = rw (lt_yes a k b.0) (below_letters k w b.1)
 
@@ -80,7 +63,7 @@ within_both low high x e =
     (leb_yes low x s.0, leb_yes x high s.1)
 
 pub lent_sound : (n k : ℕ) (words : List ℕ) → lent_check n k words ≡ gives tt → Sound n k words
-unfolding lent_check next_below
+unfolding lent_check
 lent_sound n k words e =
     let a = demanded (within 1 48 n) 3 _ tt e in
     let b = demanded (within 1 12 k) 3 _ tt a.1 in

@@ -1,4 +1,5 @@
 pub mod Refusals
 pub mod Lent
 pub mod LentLaws
+pub mod Linked
 pub mod Answers

@@ -100,10 +100,6 @@ put_model k c sheet {area = area} low h is p q =
     let same = put_same (omega arith) start in
     put_then (omega (arith, length-append (line c.states k c.rounds c.cells) (pair_lines k sheet (c.states * k)))) start (put_then (omega arith) p q)
 
--- the counts that the first line has; it does not speak of the sheet's bytes
-abbrev pub counted : ℕ → ℕ → ℕ → Counts
-counted states rounds cells = record { states = states; rounds = rounds; cells = cells; bytes = 0 }
-
 pub pairs_most : (states k : ℕ) → states ≤ 48 → k ≤ 12 → states * k ≤ 576
 pairs_most states k h g = mul-le-mul h g
 

@@ -1,86 +1,73 @@
--- The states that words reach, by their least words, as the code keeps them: an array of states, and the words in slots of 48.
-use Rattle.std.specs.Prelude.{◌≡◌, refl, List, [], ◌∷◌, ◌++◌, map, ℕ, zero, suc, ◌*◌, ◌≤◌, ◌<◌, length, get_or, take, set, replicate}
-use Rattle.std.proofs.Common.{sym, ap, ◌∙◌, not-suc-le-zero, arith, length-set, take-suc-set}
-use Rattle.std.proofs.lemmas.List.{map-append, length-map}
+-- The states that words reach, numbered by their least words: a list of states and the list of their words.
+use Rattle.std.specs.Prelude.{◌≡◌, refl, Bool, true, false, not, cond, eqb, ◌+◌, List, [], ◌∷◌, ◌++◌, map, ℕ, zero, suc, ◌≤◌, ◌<◌, length, get_or, take, replicate, Option, Some, None, ltb}
+use Rattle.std.proofs.Common.{sym, ap, ◌∙◌, arith, add-one, take-suc}
+use Rattle.std.proofs.lemmas.List.{length-replicate, map-append}
+use Rattle.std.specs.List.{position, position_or_len}
 use Rattle.rules.specs.Words.{Word}
-use Rattle.rules.specs.Search.{Entry}
+use Rattle.rules.specs.Seek.{seek}
+use Rattle.rules.specs.Search.{Entry, starts}
 use Rattle.rules.specs.Machine.{Machine}
-use Rattle.rules.specs.Numbering.{reached, order, reaching_words}
-use Rattle.rules.specs.Areas.{put}
+use Rattle.rules.specs.Numbering.{reached, order, reaching_words, place}
 use Rattle.machine.specs.Lent.{Steps}
-use Rattle.areas.specs.Store.{Slots, stored, slots_put, stored_put}
-use Rattle.search.specs.Queue.{word_at, entry_at, entries, entries_length, entries_more, word_short}
-use Rattle.search.specs.Pairs.{Beside}
 
--- the first `count` places of a queue are listed
-pub record Listed (queue parent letter : List ℕ) (count : ℕ) (states reach : List ℕ) : Type 0 where
-  pub size : length states ≡ 48
-  pub nodes : take count states ≡ map (λ (e : Entry ℕ). e.node) (entries queue parent letter count)
-  pub slots : Slots 48 reach count
-  pub words : stored 48 reach count ≡ map (λ (e : Entry ℕ). e.word) (entries queue parent letter count)
+-- states, and a word for each
+pub record Listing : Type 0 where
+  pub states : List ℕ
+  pub words : List Word
 
--- the numbering of a machine: `count` states, by their least words
-pub record Numbered (k : ℕ) (M : Machine) (states reach : List ℕ) (count : ℕ) : Type 0 where
-  pub size : length states ≡ 48
-  pub all : count ≡ length (order k M)
-  pub ordered : take count states ≡ order k M
-  pub slots : Slots 48 reach count
-  pub words : stored 48 reach count ≡ reaching_words k M
+-- the nodes of a queue, and their words
+abbrev pub listed : List (Entry ℕ) → Listing
+listed queue = record { states = map (λ (e : Entry ℕ). e.node) queue; words = map (λ (e : Entry ℕ). e.word) queue }
 
-pub listed_none : (queue parent letter states reach : List ℕ) → length states ≡ 48 → Listed queue parent letter 0 states reach
-unfolding entries stored
-listed_none queue parent letter states reach size = record {
-  size = size;
-  nodes = refl;
-  slots = record { room = omega arith; fits = λ j h. absurd (not-suc-le-zero h) };
-  words = refl;
-}
+-- the numbering of a machine
+abbrev pub numbered : ℕ → Machine → Listing
+numbered k M = record { states = order k M; words = reaching_words k M }
 
--- one place more
-pub listed_more : {queue parent letter states reach : List ℕ} {p : ℕ} → Listed queue parent letter p states reach → p < 48 → 2304 ≤ length reach
-    → Listed queue parent letter (suc p) (set states p (get_or queue p 0)) (put (p * 48) (length (word_at parent letter p) ∷ word_at parent letter p) reach)
-listed_more {queue} {parent} {letter} {states} {reach} {p} L h room =
-    let w = word_at parent letter p in
-    let q = entries queue parent letter p in
-    let e = entry_at queue parent letter p in
-    let more = entries_more queue parent letter p in
-    let short = word_short parent letter p in
-    record {
-      size = simp length-set L.size;
-      nodes = take-suc-set states p (get_or queue p 0) (omega (arith, L.size)) ∙ ap (λ (l : List ℕ). l ++ (get_or queue p 0 ∷ [])) L.nodes
-          ∙ sym (ap (map (λ (e : Entry ℕ). e.node)) more ∙ map-append (λ (e : Entry ℕ). e.node) q (e ∷ []));
-      slots = slots_put 48 reach p L.slots w (omega arith) (omega arith);
-      words = stored_put 48 reach p L.slots w (omega arith) (omega arith) ∙ ap (λ (l : List Word). l ++ (w ∷ [])) L.words
-          ∙ sym (ap (map (λ (e : Entry ℕ). e.word)) more ∙ map-append (λ (e : Entry ℕ). e.word) q (e ∷ []));
-    }
+-- a place more
+pub listed_more : (queue : List (Entry ℕ)) (p : ℕ) → p < length queue
+    → record { states = (listed (take p queue)).states ++ (get_or queue p (starts 0)).node ∷ []; words = (listed (take p queue)).words ++ (get_or queue p (starts 0)).word ∷ [] } ≡ listed (take (p + 1) queue)
+listed_more queue p h =
+    let e = get_or queue p (starts 0) in
+    let more = ap (λ (n : ℕ). take n queue) (add-one p) ∙ take-suc queue p (starts 0) h in
+    rw (more, map-append (λ (e : Entry ℕ). e.node) (take p queue) (e ∷ []), map-append (λ (e : Entry ℕ). e.word) (take p queue) (e ∷ []))
 
--- a queue of all that words reach is listed
-pub numbered : {queue parent letter states reach : List ℕ} {count : ℕ} (k : ℕ) (M : Machine) → entries queue parent letter count ≡ reached k M
-    → Listed queue parent letter count states reach → Numbered k M states reach count
+pub listed_reached : (k : ℕ) (M : Machine) → listed (reached k M) ≡ numbered k M
 unfolding order reaching_words
-numbered {queue} {parent} {letter} {states} {reach} {count} k M all L = record {
-  size = L.size;
-  all = sym (length-map (reached k M) (λ (e : Entry ℕ). e.node) ∙ ap length (sym all) ∙ entries_length queue parent letter count);
-  ordered = L.nodes ∙ ap (map (λ (e : Entry ℕ). e.node)) all;
-  slots = L.slots;
-  words = L.words ∙ ap (map (λ (e : Entry ℕ). e.word)) all;
-}
+listed_reached k M = refl
+
+-- ---- the place of a state in a list, as the library finds it
+seek_next : (p q : ℕ → Bool) (i n : ℕ) → ((j : ℕ) → q (suc j) ≡ p j) → seek q (suc i) n ≡ suc (seek p i n)
+unfolding seek
+seek_next p q i zero same = refl
+seek_next p q i (suc n) same = rw (same i, seek) (go (p i) (seek_next p q (suc i) n same))
+  where
+    go : (b : Bool) → seek q (suc (suc i)) n ≡ suc (seek p (suc i) n) → elim b [ true ↦ suc i | false ↦ seek q (suc (suc i)) n ] ≡ suc (elim b [ true ↦ i | false ↦ seek p (suc i) n ])
+    go true e = refl
+    go false e = e
+
+first_place : (x : ℕ) (xs : List ℕ) → position_or_len (λ (y : ℕ). eqb y x) xs ≡ place xs x
+unfolding place seek
+first_place x [] = refl
+first_place x (y ∷ xs) =
+    go (eqb y x) _ _ (ap suc (first_place x xs) ∙ sym (seek_next (λ (j : ℕ). eqb (get_or xs j 0) x) (λ (j : ℕ). eqb (get_or (y ∷ xs) j 0) x) 0 (length xs) (λ j. refl)))
+  where
+    go : (b : Bool) (u v : ℕ) → suc u ≡ v → cond (not b) (1 + u) 0 ≡ elim b [ true ↦ 0 | false ↦ v ]
+    go true u v e = refl
+    go false u v e = omega (arith, e)
+
+-- where something hangs on whether a state is there, it hangs on the library's answer
+pub position_place : (x : ℕ) (xs : List ℕ) → position (λ (y : ℕ). eqb y x) xs ≡ elim (ltb (place xs x) (length xs)) [ false ↦ None | true ↦ Some (place xs x) ]
+position_place x xs = rw (first_place x xs) (go (ltb (place xs x) (length xs)) (Some (place xs x)))
+  where
+    go : (b : Bool) (r : Option ℕ) → cond b r None ≡ elim b [ false ↦ None | true ↦ r ]
+    go true r = refl
+    go false r = refl
 
 -- ---- the machine of one state that stays in it: words that are all 0
-abbrev pub Still : List ℕ → Type 0
-Still alone = (i : ℕ) → get_or alone i 0 ≡ 0
+pub zeros_at : (n i : ℕ) → ◌≡◌ {A = ℕ} (get_or (replicate n 0) i 0) 0
+zeros_at zero i = refl
+zeros_at (suc n) zero = refl
+zeros_at (suc n) (suc i) = zeros_at n i
 
-pub zeros_still : (n : ℕ) → Still (replicate n 0)
-zeros_still zero i = refl
-zeros_still (suc n) zero = refl
-zeros_still (suc n) (suc i) = zeros_still n i
-
-pub beside_still : {n k : ℕ} {words : List ℕ} (alone : List ℕ) → Steps n k words → n ≤ 48 → 1 ≤ k → k ≤ 12 → length alone ≡ 12 → Still alone → Beside n 1 k words alone
-beside_still alone S n_high k_low k_high size still = record {
-  first = S;
-  second = record { some = omega arith; long = omega arith; next = λ s a hs ha. rw (still _) (omega arith) };
-  n_high = n_high;
-  m_high = omega arith;
-  k_low = k_low;
-  k_high = k_high;
-}
+pub still : (n k : ℕ) → k ≤ n → Steps 1 k (replicate n 0)
+still n k h = record { some = omega arith; long = rw length-replicate (omega arith); next = λ s a hs ha. rw zeros_at (omega arith) }

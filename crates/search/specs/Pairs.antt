@@ -1,59 +1,64 @@
 -- Two machines that are searched side by side: the pair of s and t is s·m + t, and no letter leads out of the n·m pairs.
-use Rattle.std.specs.Prelude.{◌≡◌, Bool, true, false, length, get_or}
+use Rattle.std.specs.Prelude.{◌≡◌, Bool, true, false, length, get_or, Option, Some, None}
 use Rattle.std.proofs.Math.Path.{refl, sym, ap}
 use Rattle.std.proofs.Common.{◌∙◌, subst, mod-lt, div-lt_iff_lt-mul, mul-le-mul, length-append}
-use Rattle.std.proofs.Math.Option.{Option, none, some}
+use Rattle.std.proofs.Math.Option.{none, some}
+use Rattle.std.proofs.Math.Option as paper
 use mathlib.Core.List.{List, [], ◌∷◌, ◌++◌}
 use Prim.Native.Nat.{ℕ, zero, suc, ◌+◌, ◌*◌, ◌/◌, ◌%◌, ◌-◌, ◌≤◌, ◌<◌}
 use native.Mathlib.Omega.{arith}
 use Rattle.std.proofs.Math.Numerals.{add-one}
 use Rattle.std.proofs.Math.ListN.{get_or-append}
-use Rattle.std.proofs.Math.Arith.{digits_lt}
+use Rattle.std.proofs.lemmas.List.{get_or_default}
+use Rattle.std.proofs.Math.Arith.{digits_lt, digits_div, digits_mod}
 use Rattle.std.proofs.Math.Dec.{eqb}
 use Rattle.rules.specs.Tests.{eqb_true, eqb_false, lt_yes, lt_no}
 use Rattle.rules.specs.Words.{Word, Below}
 use Rattle.rules.specs.Areas.{put}
-use Rattle.rules.specs.Seek.{seek}
+use Rattle.rules.specs.Seek.{seek_on, seek_starts, seek_hits, seek_passes, seek_ends}
 use Rattle.rules.specs.Search.{Entry, starts, walk, meet_all, explore_from, explore, Explored}
 use Rattle.rules.specs.SearchLaws as search
 use Rattle.rules.specs.MachineLaws.{walk_low}
-use Rattle.rules.specs.Machine.{Machine, lent}
+use Rattle.rules.specs.Machine.{Machine, Complete, lent}
 use Rattle.rules.specs.Difference.{pair_step, pair_apart, pairs, first_apart, word_apart, difference}
-use Rattle.machine.specs.Lent.{Steps, link}
-use Rattle.search.specs.Queue.{word_at, entries, entries_length, entries_at}
+use Rattle.machine.specs.declared.lent.Lent.{Lent}
+use Rattle.machine.specs.Linked.{linked}
+use Rattle.machine.specs.LentLaws.{steps_complete}
 
--- words and others lend machines of n and m states over the same k letters, within the paper's ranges
-pub record Beside (n m k : ℕ) (words others : List ℕ) : Type 0 where
-  pub first : Steps n k words
-  pub second : Steps m k others
-  pub n_high : n ≤ 48
-  pub m_high : m ≤ 48
-  pub k_low : 1 ≤ k
-  pub k_high : k ≤ 12
+-- lent machines over the same letters, within the paper's ranges
+pub record Beside (machine other : Lent) : Type 0 where
+  pub same : other.k ≡ machine.k
+  pub n_high : machine.n ≤ 48
+  pub m_high : other.n ≤ 48
+  pub k_low : 1 ≤ machine.k
+  pub k_high : machine.k ≤ 12
 
--- what is known at the pair x and the letter a
-pub record Here (n m k : ℕ) (words others : List ℕ) (x a : ℕ) : Type 0 where
-  pub first : x / m * k + a < length words
-  pub second : x % m * k + a < length others
-  pub next : get_or words (x / m * k + a) 0 / 256 * m + get_or others (x % m * k + a) 0 / 256 < n * m
+-- no letter leads out of the pairs of complete machines
+pub step_low : {k : ℕ} (M N : Machine) → Complete k M → Complete k N → (x a : ℕ) → x < M.states * N.states → a < k → pair_step M N x a < M.states * N.states
+unfolding pair_step
+step_low {k} M N P Q x a hx ha =
+    let left : x / N.states < M.states = (div-lt_iff_lt-mul Q.0).1 hx in
+    let right : x % N.states < N.states = mod-lt x Q.0 in
+    digits_lt (P.1 (x / N.states) a left ha) (Q.1 (x % N.states) a right ha)
 
--- the queue has a place for every pair
-pub small : {n m k : ℕ} {words others : List ℕ} → Beside n m k words others → n * m ≤ 2304
-small B = mul-le-mul B.n_high B.m_high
+module _ {machine other : Lent} (B : Beside machine other) where
+  pub first_whole : Complete machine.k (linked machine)
+  first_whole = steps_complete machine.steps
 
-pub here : {n m k : ℕ} {words others : List ℕ} → Beside n m k words others → (x a : ℕ) → x < n * m → a < k → Here n m k words others x a
-here {n} {m} {k} {words} {others} B x a hx ha =
-    let left : x / m < n = (div-lt_iff_lt-mul B.second.some).1 hx in
-    let right : x % m < m = mod-lt x B.second.some in
-    record {
-      first = omega (arith, B.first.long, digits_lt left ha);
-      second = omega (arith, B.second.long, digits_lt right ha);
-      next = digits_lt (B.first.next (x / m) a left ha) (B.second.next (x % m) a right ha);
-    }
+  pub second_whole : Complete machine.k (linked other)
+  second_whole = subst (λ (k : ℕ). Complete k (linked other)) B.same (steps_complete other.steps)
 
-pub step_low : {n m k : ℕ} {words others : List ℕ} → Beside n m k words others → (x a : ℕ) → x < n * m → a < k → pair_step (link n k words) (link m k others) x a < n * m
-unfolding pair_step lent
-step_low B x a hx ha = (here B x a hx ha).next
+  pub stays : (x a : ℕ) → x < machine.n * other.n → a < machine.k → pair_step (linked machine) (linked other) x a < machine.n * other.n
+  unfolding lent
+  stays = step_low (linked machine) (linked other) first_whole second_whole
+
+  -- the queue has a place for every pair
+  pub small : machine.n * other.n ≤ 2304
+  small = mul-le-mul B.n_high B.m_high
+
+-- the nodes of a queue are below `size`
+abbrev pub Low : ℕ → List (Entry ℕ) → Type 0
+Low size queue = (p : ℕ) → p < length queue → (get_or queue p (starts 0)).node < size
 
 -- ---- a search underway: at the place `at`, what is left of the search makes the whole of it from the queue so far
 abbrev pub Underway : (ℕ → ℕ → ℕ) → ℕ → ℕ → ℕ → ℕ → List (Entry ℕ) → Type 0
@@ -106,68 +111,70 @@ module _ (step : ℕ → ℕ → ℕ) (start k size : ℕ) (stays : (x a : ℕ) 
         over zero = refl
         over (suc f) = rw (lt_no at (length queue) h, explore_from)
 
-    -- of the arrays that hold the queue
-    pub under_place : (nodes parent letter : List ℕ) (count : ℕ) → entries nodes parent letter count ≡ queue → (p : ℕ) → p < count → get_or nodes p 0 < size
-    under_place nodes parent letter count e p h =
-        let long : p < length queue = omega (arith, ap length e, entries_length nodes parent letter count) in
-        subst (λ (x : Entry ℕ). x.node < size) (ap (λ (l : List (Entry ℕ)). get_or l p (starts start)) (sym e) ∙ entries_at nodes parent letter count p (starts start) h) (under_low p long)
+    pub under_places : Low size queue
+    under_places p h = subst (λ (e : Entry ℕ). e.node < size) (get_or_default queue p (starts start) (starts 0) h) (under_low p h)
 
--- ---- the first place and letter, as place·k + letter, at which the outputs differ; count·k where there is none
-abbrev pub apart_at : Machine → Machine → ℕ → List ℕ → ℕ → Bool
-apart_at M N k nodes j = pair_apart M N (get_or nodes (j / k) 0) (j % k)
+-- ---- the first place and letter at which the outputs differ
+-- the word of a place and a letter
+abbrev pub spelled : List (Entry ℕ) → Option (ℕ × ℕ) → paper.Option Word
+spelled queue None = none
+spelled queue (Some r) = some ((get_or queue r.0 (starts 0)).word ++ (r.1 ∷ []))
 
-unfoldable pub first_of : Machine → Machine → ℕ → List ℕ → ℕ → ℕ
-unfolding seek pair_apart
-first_of M N k nodes count = seek (apart_at M N k nodes) 0 (count * k)
+-- what the search over a queue spells, which begins with `start`
+unfoldable pub told : Machine → Machine → ℕ → ℕ → List (Entry ℕ) → paper.Option Word
+unfolding first_apart word_apart
+told M N k start queue = word_apart M N k start queue (first_apart M N k start queue)
 
-seek_same : (p q : ℕ → Bool) (i n : ℕ) → ((j : ℕ) → j < i + n → p j ≡ q j) → seek p i n ≡ seek q i n
-unfolding seek
-seek_same p q i zero f = refl
-seek_same p q i (suc n) f =
-    ap (λ (b : Bool). elim b [ true ↦ i | false ↦ seek p (suc i) n ]) (f i (omega arith))
-    ∙ ap (λ (r : ℕ). elim (q i) [ true ↦ i | false ↦ r ]) (seek_same p q (suc i) n (λ j h. f j (omega arith)))
+pub told_pairs : (M N : Machine) (k s t : ℕ) → told M N k (s * N.states + t) (pairs M N k s t) ≡ difference M N k s t
+unfolding told difference
+told_pairs M N k s t = refl
+
+module _ (M N : Machine) (k start : ℕ) (queue : List (Entry ℕ)) where
+  -- the outputs differ at the letter j % k of the place j / k
+  abbrev pub differs : ℕ → Bool
+  differs j = pair_apart M N (get_or queue (j / k) (starts start)).node (j % k)
+
+  -- none differ before j: the search goes on from there
+  abbrev pub Alike : ℕ → Type 0
+  Alike j = first_apart M N k start queue ≡ seek_on differs (length queue * k) j
+
+  pub alike_starts : Alike 0
+  unfolding first_apart
+  alike_starts = sym (seek_starts differs (length queue * k))
+
+  module _ (p a : ℕ) (here : p < length queue) (letter : a < k) where
+    low : p * k + a < length queue * k
+    low = digits_lt here letter
+
+    is : differs (p * k + a) ≡ pair_apart M N (get_or queue p (starts 0)).node a
+    is = rw (digits_div p letter, digits_mod p letter, get_or_default queue p (starts start) (starts 0) here)
+
+    spells : word_apart M N k start queue (p * k + a) ≡ spelled queue (Some (p, a))
+    unfolding word_apart
+    spells = rw (lt_yes (p * k + a) (length queue * k) low, word_apart, digits_div p letter, digits_mod p letter, get_or_default queue p (starts start) (starts 0) here)
+
+    pub alike_more : Alike (p * k + a) → pair_apart M N (get_or queue p (starts 0)).node a ≡ false → Alike (p * k + (a + 1))
+    alike_more A e =
+        let next : p * k + a + 1 ≡ p * k + (a + 1) = omega arith in
+        A ∙ seek_passes differs (length queue * k) (p * k + a) low (is ∙ e) ∙ ap (seek_on differs (length queue * k)) next
+
+    pub told_here : Alike (p * k + a) → pair_apart M N (get_or queue p (starts 0)).node a ≡ true → told M N k start queue ≡ spelled queue (Some (p, a))
+    unfolding told
+    told_here A e =
+        let r = A ∙ seek_hits differs (length queue * k) (p * k + a) low (is ∙ e) in
+        ap (word_apart M N k start queue) r ∙ spells
+
+  pub told_none : Alike (length queue * k) → told M N k start queue ≡ none
+  unfolding told word_apart
+  told_none A =
+      let r = A ∙ seek_ends differs (length queue * k) (length queue * k) (omega arith) in
+      rw (r, lt_no (length queue * k) (length queue * k) (omega arith), word_apart)
 
 -- ---- what a search that found the least difference writes, and answers
-abbrev pub found_length : Option Word → ℕ
-found_length none = 0
-found_length (some w) = length w
+abbrev pub found_length : paper.Option Word → Option ℕ
+found_length none = None
+found_length (some w) = Some (length w)
 
-abbrev pub found_put : Option Word → List ℕ → List ℕ
+abbrev pub found_put : paper.Option Word → List ℕ → List ℕ
 found_put none area = area
 found_put (some w) area = put 0 w area
-
--- arrays that hold all pairs, and the first place and letter in them: the least difference
-module _ (k : ℕ) (pos : 0 < k) (M N : Machine) (s t : ℕ) (nodes parent letter : List ℕ) (count r : ℕ) (all : entries nodes parent letter count ≡ pairs M N k s t) (first : r ≡ first_of M N k nodes count) where
-  -- the arrays' queue
-  abbrev queue : List (Entry ℕ)
-  queue = entries nodes parent letter count
-
-  abbrev start : ℕ
-  start = s * N.states + t
-
-  size : length queue * k ≡ count * k
-  size = ap (λ (n : ℕ). n * k) (entries_length nodes parent letter count)
-
-  first_of_is : first_apart M N k start queue ≡ r
-  unfolding first_apart first_of
-  first_of_is =
-      ap (seek (λ (j : ℕ). pair_apart M N (get_or queue (j / k) (starts start)).node (j % k)) 0) size
-      ∙ seek_same _ (apart_at M N k nodes) 0 (count * k)
-      (λ j h. ap (λ (e : Entry ℕ). pair_apart M N e.node (j % k)) (entries_at nodes parent letter count (j / k) (starts start) ((div-lt_iff_lt-mul pos).1 (omega arith))))
-      ∙ sym first
-
-  found : difference M N k s t ≡ word_apart M N k start queue r
-  unfolding difference
-  found =
-      ap (λ (q : List (Entry ℕ)). word_apart M N k start q (first_apart M N k start q)) (sym all) ∙ ap (word_apart M N k start queue) first_of_is
-
-  pub found_some : r < count * k → difference M N k s t ≡ some (word_at parent letter (r / k) ++ (r % k ∷ []))
-  unfolding word_apart
-  found_some h =
-      found
-      ∙ (rw (lt_yes r (length queue * k) (omega (arith, size)), word_apart))
-      ∙ ap (λ (e : Entry ℕ). some (e.word ++ (r % k ∷ []))) (entries_at nodes parent letter count (r / k) (starts start) ((div-lt_iff_lt-mul pos).1 h))
-
-  pub found_none : count * k ≤ r → difference M N k s t ≡ none
-  unfolding word_apart
-  found_none h = found ∙ (rw (lt_no r (length queue * k) (omega (arith, size)), word_apart))

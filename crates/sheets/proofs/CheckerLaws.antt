@@ -17,7 +17,6 @@ use Rattle.rules.proofs.Links.{machine_classes}
 use Rattle.rules.proofs.Smallest.{after}
 use Rattle.rules.specs.Answer.{gives}
 use Rattle.rules.specs.Sheets.{Proof}
-use Rattle.machine.specs.Lent.{next_below}
 use Rattle.machine.specs.LentLaws.{all_at, demanded, last_demanded}
 use Rattle.sheets.specs.Checker.{some_word, model_of, reaches_all, told_apart, all_apart, model_state, step_agrees, map_holds, judge}
 use Rattle.sheets.specs.Seen.{Seen}
@@ -168,7 +167,7 @@ judged n k M P = (says, test)
 -- ---- sound
 module _ {M : Machine} {P : Proof} (S : Seen P) (whole : Complete P.k M) (A : Accepted M.states P.k M P) where
   model_complete : Complete P.k (model_of P)
-  unfolding lent next_below
+  unfolding lent
   model_complete = (
     S.m_low,
     λ s a h ha. ltb_yes (get_or P.model (s * P.k + a) 0 / 256) P.m

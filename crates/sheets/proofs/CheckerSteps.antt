@@ -4,19 +4,19 @@ use Rattle.std.proofs.Math.Path.{refl, ap}
 use Rattle.std.proofs.Common.{sym, ◌∙◌, subst, inl, inr, not-suc-le-zero, le_of_suc-le-suc}
 use Rattle.std.proofs.Math.Bool.{Bool, false, not}
 use mathlib.Core.List.{List, [], ◌∷◌}
-use Prim.Native.Nat.{ℕ, zero, suc, ◌+◌, ◌*◌, ◌-◌, ◌/◌, ◌%◌, ◌≤◌, ◌<◌}
+use Prim.Native.Nat.{ℕ, zero, suc, ◌+◌, ◌*◌, ◌-◌, ◌/◌, ◌≤◌, ◌<◌}
 use Rattle.std.proofs.Math.Numerals.{add-one}
 use native.Mathlib.Omega.{arith}
 use Rattle.std.proofs.Math.ListN.{drop_of_length-le}
 use Rattle.std.proofs.Math.Seq.{drop-cons}
-use Rattle.std.proofs.Math.Arith.{digits_lt}
 use Rattle.std.proofs.Math.Dec.{eqb}
 use Rattle.rules.specs.Tests.{outcome, or_split, eqb_true, eqb_false, ltb_yes, ltb_no, is_true, is_false, all_from, all_true, true_all}
 use Rattle.rules.specs.Words.{Word}
 use Rattle.rules.specs.Machine.{Machine, lent, last_from}
 use Rattle.rules.specs.Answer.{Answer, refused, gives, demand, ◌>>◌}
 use Rattle.rules.specs.Sheets.{Proof}
-use Rattle.machine.specs.Lent.{link, all_pass, Sound}
+use Rattle.std.specs.List.{list_all, range_with_len}
+use Rattle.machine.specs.Lent.{link, Sound}
 use Rattle.machine.specs.LentLaws.{all_at}
 use Rattle.sheets.specs.Reading.{Parsed, bad, good}
 use Rattle.sheets.specs.Proofs.{map_byte, proof_sheet, Counts, counts_of, read_proof}
@@ -25,7 +25,7 @@ use Rattle.sheets.specs.WordSteps.{clash}
 use Rattle.sheets.specs.Places.{laid, read_good}
 use Rattle.sheets.specs.Checker.{some_word, model_of, reaches_all, told_apart, all_apart, step_agrees, map_holds, judge, judge_sheet}
 use Rattle.sheets.proofs.CheckerLaws.{or_true}
-use Rattle.sheets.specs.Held.{said, said_is, Held, model_is, mapped_states}
+use Rattle.sheets.specs.Held.{said, Held, model_is, mapped_states}
 use Rattle.sheets.specs.CheckerSteps.{reached, tells, apart_before, Mapping, mapped, state_agrees}
 
 -- ---- loops over numbers: the start, one that passes, one that does not, the end
@@ -158,13 +158,7 @@ at_any (x ∷ l) zero h = refl
 at_any (x ∷ l) (suc i) h = at_any l i (le_of_suc-le-suc h)
 
 module _ {n k : ℕ} {words : List ℕ} {m : ℕ} {model map : List ℕ} (G : Mapping n k words m model map) where
-  -- what is read lies where it is read
-  pub word_in : (s a : ℕ) → s < n → a < k → s * k + a < length words
-  word_in s a hs ha = rw G.sound.long (digits_lt hs ha)
-
-  pub model_in : (t a : ℕ) → t < m → a < k → t * k + a < length model
-  model_in t a ht ha = rw G.model_sound.long (digits_lt ht ha)
-
+  -- what is read lies in the map
   pub next_in : (s a : ℕ) → s < n → a < k → get_or words (s * k + a) 0 / 256 < length map
   next_in s a hs ha = rw G.long (G.sound.next s a hs ha)
 
@@ -179,12 +173,12 @@ module _ {n k : ℕ} {words : List ℕ} {m : ℕ} {model map : List ℕ} (G : Ma
   pub state_is : (s : ℕ) → s < n → get_or map s 255 ≡ get_or map s 0
   state_is s hs = at_any map s (rw G.long hs)
 
-  -- a step, by what is read
-  pub step_is : (s a : ℕ) → s < n → a < k → step_agrees (link n k words) (mapped n k m model map) s a
-      ≡ (eqb (get_or words (s * k + a) 0 % 256) (get_or model (get_or map s 0 * k + a) 0 % 256)
-      && eqb (get_or map (get_or words (s * k + a) 0 / 256) 0) (get_or model (get_or map s 0 * k + a) 0 / 256))
+  -- a step, by what the code reads
+  pub step_at : (s a : ℕ) → s < n → a < k → step_agrees (link n k words) (mapped n k m model map) s a
+      ≡ (eqb ((link n k words).out s a) ((link m k model).out (get_or map s 0) a)
+      && eqb (get_or map ((link n k words).next s a) 0) ((link m k model).next (get_or map s 0) a))
   unfolding step_agrees lent
-  step_is s a hs ha = rw (state_is s hs, at_any map (get_or words (s * k + a) 0 / 256) (next_in s a hs ha)) refl
+  step_at s a hs ha = rw (state_is s hs, at_any map (get_or words (s * k + a) 0 / 256) (next_in s a hs ha)) refl
 
   -- a state that is asked nothing, and one that is asked at each letter
   pub agrees_none : (s : ℕ) → s < n → get_or map s 0 ≡ 255 → state_agrees (link n k words) (mapped n k m model map) s ≡ true
@@ -225,7 +219,7 @@ module _ {sheet model : List ℕ} {m k n c : ℕ} (H : Held sheet model m k) (e 
         sound = sound;
         model_sound = H.sound;
         long = l.states.0 ∙ mapped_states H e;
-        bytes = subst (λ (z : ℕ). all_pass (map_byte z) (said sheet).state_map ≡ true) H.states l.states.1;
+        bytes = subst (λ (z : ℕ). list_all (map_byte z) (said sheet).state_map ≡ true) H.states l.states.1;
       }
 
   pub map_same : (M : Machine) → map_holds M (said sheet) ≡ map_holds M (mapped n k m model (said sheet).state_map)
@@ -246,9 +240,6 @@ judge_refused n k M sheet x e = go (proof_sheet sheet) e
     go (good P rest) e = absurd (clash (sym e))
 
 module _ (n k : ℕ) (M : Machine) (sheet : List ℕ) (h : Counts) (e : read_proof sheet ≡ gives h) where
-  pub judge_said : judge_sheet n k M (proof_sheet sheet) ≡ judge n k M (said sheet)
-  judge_said = let g = read_good sheet h e in ap (judge_sheet n k M) g.2 ∙ ap (judge n k M) (sym (said_is sheet g.1 g.0 g.2))
-
   -- 11
   pub judge_other : (eqb h.n n && eqb h.k k) ≡ false → judge_sheet n k M (proof_sheet sheet) ≡ refused 11
   unfolding judge
@@ -256,3 +247,9 @@ module _ (n k : ℕ) (M : Machine) (sheet : List ℕ) (h : Counts) (e : read_pro
       let g = read_good sheet h e in
       let c : (eqb g.0.n n && eqb g.0.k k) ≡ false = ap (λ (h : Counts). eqb h.n n && eqb h.k k) g.3 ∙ t in
       ap (judge_sheet n k M) g.2 ∙ rw c refl
+
+-- a test of all numbers of a range
+pub all_ranged : (p : ℕ → Bool) (i n : ℕ) → list_all p (range_with_len i n) ≡ all_from p i n
+unfolding all_from
+all_ranged p i zero = refl
+all_ranged p i (suc n) = let e : i + 1 ≡ suc i = omega arith in rw e (ap (λ (b : Bool). p i && b) (all_ranged p (suc i) n))

@@ -4,6 +4,7 @@ use Rattle.std.specs.Prelude.{◌≡◌, refl, ◌⊎◌, ◌≢◌, true, ℕ, 
 use Rattle.std.proofs.Math.Path.{sym}
 use Rattle.std.proofs.Common.{ap, ◌∙◌, subst, inl, inr, not-suc-le-zero, le_of_suc-le-suc, div-add-mod', mod-lt, div-lt_iff_lt-mul, arith}
 use Rattle.std.proofs.Math.Option.{none}
+use Rattle.std.proofs.lemmas.List.Sums.{list_all-from_AllPass}
 use mathlib.Core.List.{List, [], ◌∷◌, ◌++◌}
 use Rattle.std.proofs.Math.Arith.{digits_div}
 use Rattle.rules.specs.Tests.{lt_yes}
@@ -19,7 +20,6 @@ use Rattle.rules.specs.StateMap.{renumbered_smallest, Reached, Unreached, reache
 use Rattle.rules.specs.Answer.{gives}
 use Rattle.rules.specs.Sheets.{Proof, words_of}
 use Rattle.machine.specs.Lent.{next_below}
-use Rattle.machine.specs.LentLaws.{at_all}
 use Rattle.learning.specs.Learner.{finished}
 use Rattle.learning.specs.Proper.{Proper}
 use Rattle.learning.specs.Bounds.{stop_bounds}
@@ -41,9 +41,9 @@ any_default (x ∷ l) (suc i) d e h = any_default l i d e (le_of_suc-le-suc h)
 
 -- the words of a complete machine have their nexts below its states
 words_next : (k : ℕ) (N : Machine) → 0 < k → Complete k N → ((s a : ℕ) → s < N.states → a < k → N.out s a < 256) → next_below N.states (words_of 256 k N) ≡ true
-unfolding next_below
 words_next k N pos whole low =
-    at_all (λ (x : ℕ). ltb (x / 256) N.states) (words_of 256 k N) (λ i h. lt_yes (get_or (words_of 256 k N) i 0 / 256) N.states (next i (rw (words_length 256 k N) at h)))
+    list_all-from_AllPass (λ (x : ℕ). ltb (x / 256) N.states) (words_of 256 k N)
+    (λ i d h. rw (any_default (words_of 256 k N) i d 0 h) (lt_yes (get_or (words_of 256 k N) i 0 / 256) N.states (next i (rw (words_length 256 k N) at h))))
   where
     next : (i : ℕ) → i < N.states * k → get_or (words_of 256 k N) i 0 / 256 < N.states
     next i h =
@@ -98,7 +98,7 @@ module _ {k : ℕ} {M N : Machine} {reaching : List Word} {states : List ℕ} (I
         columns_short = b.column_short;
         columns_letters = T.letters;
         map_long = X.long;
-        map_bytes_pass = at_all (map_byte N.states) states (λ i h. rw (any_default states i 0 255 h) (map_byte_is i (rw X.long at h)));
+        map_bytes_pass = list_all-from_AllPass (map_byte N.states) states (λ i d h. rw (any_default states i d 255 h) (map_byte_is i (rw X.long at h)));
       }
 
   -- .. and the checker accepts it

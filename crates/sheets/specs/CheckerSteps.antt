@@ -9,7 +9,8 @@ use Rattle.rules.specs.Words.{Word}
 use Rattle.rules.specs.Search.{walk}
 use Rattle.rules.specs.Machine.{Machine, last_from}
 use Rattle.rules.specs.Sheets.{Proof}
-use Rattle.machine.specs.Lent.{all_pass, Sound}
+use Rattle.std.specs.List.{list_all}
+use Rattle.machine.specs.Lent.{Sound}
 use Rattle.sheets.specs.Proofs.{map_byte}
 use Rattle.sheets.specs.Checker.{told_apart, model_state, step_agrees}
 
@@ -32,7 +33,7 @@ pub record Mapping (n k : ℕ) (words : List ℕ) (m : ℕ) (model map : List �
   pub sound : Sound n k words
   pub model_sound : Sound m k model
   pub long : length map ≡ n
-  pub bytes : all_pass (map_byte m) map ≡ true
+  pub bytes : list_all (map_byte m) map ≡ true
 
 -- a sheet of which only these are looked at
 abbrev pub mapped : ℕ → ℕ → ℕ → List ℕ → List ℕ → Proof

@@ -1,6 +1,6 @@
 -- What the checker's code holds of a proof sheet that was read: what the sheet says, its model as words, and where the words lie that are run.
 use Rattle.std.specs.Prelude.{◌≡◌, true, get_or, drop}
-use Rattle.std.proofs.Math.Path.{refl, sym, ap, subst}
+use Rattle.std.proofs.Math.Path.{refl, sym, ap, ap₂, subst}
 use Rattle.std.proofs.Common.{◌∙◌, not-suc-le-zero, le_of_suc-le-suc, mul-le-mul, add-one, arith, length-drop, drop-drop, take_all}
 use mathlib.Core.List.{List, [], ◌∷◌}
 use Prim.Native.Nat.{ℕ, zero, suc, ◌+◌, ◌*◌, ◌-◌, ◌≤◌, ◌<◌}
@@ -89,12 +89,9 @@ pub record Here (sheet : List ℕ) (k : ℕ) (w : Word) (place next : ℕ) : Typ
   pub below : letters_below k w ≡ true
   pub after : next ≡ place + (3 + length w)
 
--- the part after the length is the word
-pub here_part : {sheet : List ℕ} {k : ℕ} {w : Word} {place next size : ℕ} → Here sheet k w place next → size ≡ get_or sheet (place + 2) 0
-    → take (place + 3 + size - (place + 3)) (drop (place + 3) sheet) ≡ w
-here_part {sheet} {k} {w} {place} {next} {size} h e =
-    let n : place + 3 + size - (place + 3) ≡ length w = omega (arith, h.size) in
-    ap (λ (i : ℕ). take i (drop (place + 3) sheet)) n ∙ h.letters
+-- the letters that stand there are the word
+pub here_word : {sheet : List ℕ} {k : ℕ} {w : Word} {place next : ℕ} → Here sheet k w place next → take (get_or sheet (place + 2) 0) (drop (place + 3) sheet) ≡ w
+here_word {sheet} {k} {w} {place} h = ap (λ (i : ℕ). take i (drop (place + 3) sheet)) h.size ∙ h.letters
 
 -- the records of words, one by one
 module _ (x y : ℕ) where
@@ -119,6 +116,20 @@ module _ (x y : ℕ) where
         after = let e = spelt_more words j long in rw (add-one j) (omega arith);
       }
 
+-- what reading gave is what the sheet says, and its m and k are the model's
+pub counted_is : (sheet : List ℕ) (h : Counts) → read_proof sheet ≡ gives h → counts (said sheet).m (said sheet).k (said sheet).n (said sheet).c ≡ h
+counted_is sheet h e = let g = read_good sheet h e in ap (λ (P : Proof). counts P.m P.k P.n P.c) (said_is sheet g.1 g.0 g.2) ∙ g.3
+
+module _ {sheet model : List ℕ} {m k : ℕ} (H : Held sheet model m k) (h : Counts) (e : read_proof sheet ≡ gives h) where
+  pub read_states : h.m ≡ m
+  read_states = sym (ap (λ (h : Counts). h.m) (counted_is sheet h e)) ∙ H.states
+
+  pub read_letters : h.k ≡ k
+  read_letters = sym (ap (λ (h : Counts). h.k) (counted_is sheet h e)) ∙ H.letters
+
+  pub read_as : read_proof sheet ≡ gives (counts m k h.n h.c)
+  read_as = e ∙ ap₂ (λ (m k : ℕ). gives (counts m k h.n h.c)) read_states read_letters
+
 -- where the records of the columns begin, and their number
 abbrev pub Columns : List ℕ → ℕ → ℕ → Type 0
 Columns sheet at c = (at ≡ column_place (said sheet) 0) × ((said sheet).c ≡ c)
@@ -131,9 +142,6 @@ module _ {sheet model : List ℕ} {m k : ℕ} (H : Held sheet model m k) where
   pub reaching_start : 6 + m * (2 + 2 * k) ≡ reaching_place (said sheet) 0
   unfolding reaching_place words_bytes
   reaching_start = rw (H.states, H.letters) (omega arith)
-
-  pub reaching_within : (k ≤ 12) × (6 + m * (2 + 2 * k) ≤ length sheet)
-  reaching_within = (H.sound.k_high, rw (H.states, H.letters) at (laid sheet (said sheet) [] H.read).start)
 
   pub reaching_here : (j : ℕ) → j < m
       → Here sheet k (get_or (said sheet).reaching j []) (reaching_place (said sheet) j) (reaching_place (said sheet) (j + 1))
@@ -157,8 +165,7 @@ module _ {sheet model : List ℕ} {m k : ℕ} (H : Held sheet model m k) where
 module _ {sheet model : List ℕ} {m k n c : ℕ} (H : Held sheet model m k) (e : read_proof sheet ≡ gives (counts m k n c)) where
   -- the counts that reading gave are those of the sheet
   counted : counts (said sheet).m (said sheet).k (said sheet).n (said sheet).c ≡ counts m k n c
-  counted = let g = read_good sheet (counts m k n c) e in
-      ap (λ (P : Proof). counts P.m P.k P.n P.c) (said_is sheet g.1 g.0 g.2) ∙ g.3
+  counted = counted_is sheet (counts m k n c) e
 
   pub mapped_states : (said sheet).n ≡ n
   mapped_states = ap (λ (h : Counts). h.n) counted

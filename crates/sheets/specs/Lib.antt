@@ -10,12 +10,14 @@ pub mod ProofParts
 pub mod WordRecords
 pub mod WordSteps
 pub mod ProofSteps
+pub mod Rests
 pub mod ProofAnswers
 pub mod Places
 pub mod ProofLaws
 pub mod Checker
 pub mod Held
 pub mod CheckerSteps
+pub mod CheckerParts
 pub mod CheckerAnswers
 pub mod Cases
 pub mod ProofCases

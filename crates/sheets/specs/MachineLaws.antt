@@ -8,7 +8,7 @@ use Rattle.rules.specs.Answer.{gives, within}
 use Rattle.rules.specs.Areas.{over}
 use Rattle.rules.specs.Sheets.{MH, pair_bytes, row_bytes, machine_bytes}
 use Rattle.rules.specs.SheetLaws.{pairs_of}
-use Rattle.machine.specs.Lent.{all_pass, next_below, lent_check}
+use Rattle.machine.specs.Lent.{next_below, lent_check}
 use Rattle.machine.specs.LentLaws as lents
 use Rattle.sheets.specs.Reading.{good, mark, pairs, rows}
 use Rattle.sheets.specs.Machines.{Sheet, Size, Left, machine_sheet, read_machine, write_machine}
@@ -45,7 +45,7 @@ unfolding mark
 mark_read x y bytes = rw (le-leb 2 (suc (suc (length bytes))) (omega arith), eqs_same (x ∷ y ∷ []))
 
 pub pairs_read : (n : ℕ) (words bytes : List ℕ) → next_below n words ≡ true → pairs n (length words) (pair_bytes words ++ bytes) ≡ good words bytes
-unfolding pairs pair_bytes next_below all_pass
+unfolding pairs pair_bytes
 pairs_read n [] bytes h = refl
 pairs_read n (x ∷ words) bytes h =
     let s = and_split (ltb (x / 256) n) (next_below n words) h in
@@ -53,7 +53,6 @@ pairs_read n (x ∷ words) bytes h =
 
 -- of the first k and of the others
 next_parts : (n k : ℕ) (words : List ℕ) → next_below n words ≡ true → (next_below n (take k words) ≡ true) × (next_below n (drop k words) ≡ true)
-unfolding next_below all_pass
 next_parts n zero words h = (refl, h)
 next_parts n (suc k) [] h = (refl, refl)
 next_parts n (suc k) (x ∷ words) h =

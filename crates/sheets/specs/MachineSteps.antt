@@ -1,22 +1,21 @@
 -- A machine sheet step by step, as the code goes through it.
-use Rattle.std.specs.Prelude.{◌≡◌, refl, List, [], ◌∷◌, ◌++◌, ℕ, suc, ◌+◌, ◌*◌, ◌≤◌, ◌<◌, get_or, drop}
-use Rattle.std.proofs.Common.{sym, ap, ap₂, ◌∙◌, subst, arith, take-append-drop}
+use Rattle.std.specs.Prelude.{◌≡◌, refl, Bool, false, ◌&&◌, List, [], ◌∷◌, ◌++◌, ℕ, suc, ◌+◌, ◌*◌, ◌≤◌, ◌<◌, get_or, drop}
+use Rattle.std.proofs.Common.{sym, true≢false, ap, ap₂, ◌∙◌, subst, arith, take-append-drop}
 use Rattle.std.proofs.Math.Bool.{true}
-use Rattle.std.proofs.Math.ListN.{length, length-drop, drop_of_length-le}
-use Rattle.std.proofs.Math.Seq.{drop-cons}
+use Rattle.std.proofs.Math.ListN.{length, length-drop}
 use Rattle.std.proofs.Math.Dec.{leb}
 use borrow.Author.Tests.{le-leb, lt-leb}
 use Rattle.rules.specs.Tests.{leb_yes}
-use Rattle.rules.specs.Answer.{refused, gives, within}
+use Rattle.rules.specs.Answer.{Answer, refused, gives, within}
 use Rattle.rules.specs.Areas.{over, put, put_start}
 use Rattle.rules.specs.Sheets.{MH, row_bytes, machine_bytes}
 use Rattle.rules.specs.SheetLaws.{machine_length, words_most}
 use Rattle.machine.specs.Lent.{lent_check}
 use Rattle.machine.specs.LentLaws.{lent_sound, within_both}
-use Rattle.sheets.specs.Reading.{Parsed, good, Reader, pure, ◌>>=◌, ◌>>◌, demand, at_end, mark, rows}
+use Rattle.sheets.specs.Reading.{Parsed, bad, good, Reader, pure, and_then, ◌>>=◌, ◌>>◌, demand, at_end, mark, rows}
 use Rattle.sheets.specs.Standing.{row_words}
-use Rattle.sheets.specs.Steps.{outcome, bad_good, came_good, came_bad, then_good, demanded, two, mark_were, mark_took, Read, rows_were, rows_took}
-use Rattle.sheets.specs.Machines.{Sheet, machine_sheet, read_leaves, read_machine, write_leaves, write_machine}
+use Rattle.sheets.specs.Steps.{outcome, bad_good, came_good, came_bad, then_good, demanded, two, mark_were, mark_took, Read, rows_were}
+use Rattle.sheets.specs.Machines.{Sheet, Size, machine_sheet, read_leaves, read_machine, write_leaves, write_machine}
 
 -- what stands after MH, n and k
 unfoldable pub sheet_body : ℕ → ℕ → Reader Sheet
@@ -48,19 +47,15 @@ module _ (bytes : List ℕ) where
       let l : leb 2 (suc (suc (length (drop 4 bytes)))) ≡ true = le-leb 2 (suc (suc (length (drop 4 bytes)))) (omega arith) in
       rw (t.is, two bytes 2 h, l)
 
--- ---- the body, with n and k in their ranges: rows refused; a byte left over; none
-module _ (bytes : List ℕ) (n k : ℕ) (low : 4 ≤ length bytes) (hn : within 1 48 n ≡ true) (hk : within 1 12 k ≡ true) where
-  pub body_refused : (x : ℕ) → outcome (rows n k n (drop 4 bytes)) ≡ refused x → outcome (sheet_body n k (drop 4 bytes)) ≡ refused x
-  unfolding sheet_body
-  body_refused x e = rw (hn, hk, came_bad (rows n k n (drop 4 bytes)) x e)
+-- ---- the body: n or k outside its range
+unsized : (a b : Bool) (bytes : List ℕ) (f : Reader Sheet) → (a && b) ≡ false → outcome (and_then (demand a 3 bytes) (λ u. ◌>>◌ (demand b 3) f)) ≡ refused 3
+unsized false b bytes f e = refl
+unsized true false bytes f e = refl
+unsized true true bytes f e = absurd (true≢false e)
 
-  pub body_left_over : outcome (rows n k n (drop 4 bytes)) ≡ gives tt → 4 + n * (2 + 2 * k) < length bytes → outcome (sheet_body n k (drop 4 bytes)) ≡ refused 5
-  unfolding sheet_body
-  body_left_over e h = rw (hn, hk, (rows_took bytes 4 low n k n e).is, drop-cons bytes (4 + n * (2 + 2 * k)) 0 h)
-
-  pub body_sound : outcome (rows n k n (drop 4 bytes)) ≡ gives tt → length bytes ≤ 4 + n * (2 + 2 * k) → outcome (sheet_body n k (drop 4 bytes)) ≡ gives tt
-  unfolding sheet_body
-  body_sound e h = rw (hn, hk, (rows_took bytes 4 low n k n e).is, drop_of_length-le bytes {i = 4 + n * (2 + 2 * k)} h)
+pub body_unsized : (n k : ℕ) (bytes : List ℕ) → (within 1 48 n && within 1 12 k) ≡ false → outcome (sheet_body n k bytes) ≡ refused 3
+unfolding sheet_body
+body_unsized n k bytes e = unsized (within 1 48 n) (within 1 12 k) bytes _ e
 
 -- ---- what was read as a sheet: its head, its rows, and nothing else
 pub record ReadSheet (bytes rest : List ℕ) (s : Sheet) : Type 0 where
@@ -125,6 +120,40 @@ sheet_sized bytes e =
     let g = came_good (machine_sheet bytes) e in
     let s = sheet_were bytes g.1 g.0 g.2 in
     rw (s.n_is, s.k_is) (s.long, words_most g.0.n g.0.k (within_both 1 48 g.0.n s.n_within).1 (within_both 1 12 g.0.k s.k_within).1)
+
+-- ---- what a sheet says of its size, or its refusal
+abbrev pub size_in : Parsed Sheet → Answer Size
+size_in (bad number) = refused number
+size_in (good s rest) = gives (record { n = s.n; k = s.k })
+
+-- a check that gives the size is one that answers whether the sheet is sound: one way ..
+module _ (bytes : List ℕ) where
+  pub size_refused : (x : ℕ) → outcome (machine_sheet bytes) ≡ refused x → size_in (machine_sheet bytes) ≡ refused x
+  size_refused x e = ap size_in (came_bad (machine_sheet bytes) x e)
+
+  pub size_sound : outcome (machine_sheet bytes) ≡ gives tt → size_in (machine_sheet bytes) ≡ gives (record { n = get_or bytes 2 0; k = get_or bytes 3 0 })
+  size_sound e =
+      let g = came_good (machine_sheet bytes) e in
+      let s = sheet_were bytes g.1 g.0 g.2 in
+      ap size_in g.2 ∙ rw (s.n_is, s.k_is) refl
+
+  -- .. and the other
+  pub sized_refused : (x : ℕ) → size_in (machine_sheet bytes) ≡ refused x → outcome (machine_sheet bytes) ≡ refused x
+  sized_refused x = go (machine_sheet bytes)
+    where
+      go : (p : Parsed Sheet) → size_in p ≡ refused x → outcome p ≡ refused x
+      go (bad y) e = let h : y ≡ x = cc in ap refused h
+      go (good s rest) e = let z : ◌≡◌ {A = ℕ} 0 1 = cc in absurd (omega arith)
+
+  pub sized_sound : (s : Size) → size_in (machine_sheet bytes) ≡ gives s → (outcome (machine_sheet bytes) ≡ gives tt) × (s ≡ record { n = get_or bytes 2 0; k = get_or bytes 3 0 })
+  sized_sound s e =
+      let h = go (machine_sheet bytes) e in
+      let z : ◌≡◌ {A = Answer Size} (gives s) (gives (record { n = get_or bytes 2 0; k = get_or bytes 3 0 })) = sym e ∙ size_sound h in
+      (h, cc)
+    where
+      go : (p : Parsed Sheet) → size_in p ≡ gives s → outcome p ≡ gives tt
+      go (bad y) e = let z : ◌≡◌ {A = ℕ} 0 1 = cc in absurd (omega arith)
+      go (good s rest) e = refl
 
 -- ---- the operations: refused; an area too small; what they leave, by the definitions and by the places of the bytes
 module _ (bytes area : List ℕ) where

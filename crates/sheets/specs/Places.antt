@@ -8,7 +8,7 @@ use Rattle.std.proofs.Math.ListN.{length, get_or-append}
 use borrow.Author.Tests.{lt-ltb, le-ltb}
 use Rattle.rules.specs.Answer.{refused, gives}
 use Rattle.rules.specs.Sheets.{AW, CW, SM, Proof, row_bytes, word_bytes, words_bytes}
-use Rattle.machine.specs.Lent.{all_pass}
+use Rattle.std.specs.List.{list_all}
 use Rattle.sheets.specs.Reading.{Parsed, bad, good, and_then}
 use Rattle.sheets.specs.Proofs.{map_byte, proof_sheet, Counts, counts_of, read_proof, record_of, aw_record}
 use Rattle.sheets.specs.Standing.{word_at, pair_words, row_words, pair_words_length}
@@ -28,7 +28,7 @@ pub record Laid (bytes : List ℕ) (P : Proof) (rest : List ℕ) : Type 0 where
   pub records : drop (6 + P.m * (2 + 2 * P.k)) bytes ≡ words_bytes AW P.reaching ++ (words_bytes CW P.columns ++ (SM ++ P.state_map))
   pub reaching : (length P.reaching ≡ P.m) × AllFit 0 47 P.k P.reaching
   pub columns : (length P.columns ≡ P.c) × AllFit 1 93 P.k P.columns
-  pub states : (length P.state_map ≡ P.n) × (all_pass (map_byte P.m) P.state_map ≡ true)
+  pub states : (length P.state_map ≡ P.n) × (list_all (map_byte P.m) P.state_map ≡ true)
   pub end : rest ≡ []
 
 pub laid : (bytes : List ℕ) (P : Proof) (rest : List ℕ) → proof_sheet bytes ≡ good P rest → Laid bytes P rest

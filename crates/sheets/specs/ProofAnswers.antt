@@ -1,39 +1,30 @@
 -- The answers of the proof sheet's reader in the paper's terms, and that these fix them: two answers that meet one promise are equal.
-use Rattle.std.specs.Prelude.{◌≡◌, List, ℕ, ◌+◌}
+use Rattle.std.specs.Prelude.{◌≡◌, Result, List, ℕ, ◌+◌}
 use Rattle.std.proofs.Common.{sym, ap, ◌∙◌}
-use Rattle.rules.specs.Answer.{Answer, refused, gives}
-use Rattle.machine.specs.Refusals.{number, number_inj}
-use Rattle.sheets.specs.declared.proofs.Step.{Step}
-use Rattle.sheets.specs.declared.proofs.Step.TheVariants as step
-use Rattle.sheets.specs.declared.proofs.ProofRead.{ProofRead}
-use Rattle.sheets.specs.declared.proofs.ProofRead.TheVariants as proof
+use Rattle.rules.specs.Answer.{Answer}
+use Rattle.machine.specs.declared.refusal.Refusal.{Refusal}
+use Rattle.machine.specs.Answers.{answer, answered, answer_fixed, answered_fixed}
+use Rattle.sheets.specs.declared.proofs.Counts as code
 use Rattle.sheets.specs.Proofs.{Counts, aw_record}
 use Rattle.sheets.specs.ProofParts.{counts, aw_place}
-use Rattle.sheets.specs.WordSteps.{clash}
 
 -- ---- a step
-abbrev pub stepped : Step → Answer ℕ
-stepped (step.Next place) = gives place
-stepped (step.Refused r) = refused (number r)
-
-pub stepped_fixed : (x y : Step) → stepped x ≡ stepped y → x ≡ y
-stepped_fixed (step.Next a) (step.Next b) e = let h : a ≡ b = cc in ap step.Next h
-stepped_fixed (step.Next a) (step.Refused s) e = absurd (clash (sym e))
-stepped_fixed (step.Refused r) (step.Next b) e = absurd (clash e)
-stepped_fixed (step.Refused r) (step.Refused s) e = let h : number r ≡ number s = cc in ap step.Refused (number_inj r s h)
+pub stepped_fixed : (x y : Result ℕ Refusal) → answered x ≡ answered y → x ≡ y
+stepped_fixed x y e = answered_fixed x y e
 
 -- ---- reading a proof sheet
-abbrev pub read_of : ProofRead → Answer Counts
-read_of (proof.Read m k n c) = gives (counts m k n c)
-read_of (proof.Refused r) = refused (number r)
+-- the four numbers, as reading gives them
+abbrev pub numbers_of : code.Counts → Counts
+numbers_of h = counts h.m h.k h.n h.c
 
-pub read_fixed : (x y : ProofRead) → read_of x ≡ read_of y → x ≡ y
-read_fixed (proof.Read m k n c) (proof.Read m' k' n' c') e =
-    let s : counts m k n c ≡ counts m' k' n' c' = cc in
-    ap (λ (x : Counts). proof.Read x.m x.k x.n x.c) s
-read_fixed (proof.Read m k n c) (proof.Refused s) e = absurd (clash (sym e))
-read_fixed (proof.Refused r) (proof.Read m k n c) e = absurd (clash e)
-read_fixed (proof.Refused r) (proof.Refused s) e = let h : number r ≡ number s = cc in ap proof.Refused (number_inj r s h)
+abbrev pub read_of : Result code.Counts Refusal → Answer Counts
+read_of r = answer numbers_of r
+
+numbers_fixed : (x y : code.Counts) → numbers_of x ≡ numbers_of y → x ≡ y
+numbers_fixed x y e = ap (λ (h : Counts). record { m = h.m; k = h.k; n = h.n; c = h.c }) e
+
+pub read_fixed : (x y : Result code.Counts Refusal) → read_of x ≡ read_of y → x ≡ y
+read_fixed x y e = answer_fixed numbers_of numbers_fixed x y e
 
 -- ---- the AW record of a state
 -- what `aw_record` promises of a part: its bytes, and the block and the place at which it lies, for a sheet that lies at a place of a block

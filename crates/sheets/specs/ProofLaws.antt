@@ -12,7 +12,8 @@ use Rattle.rules.specs.Tests.{or_split, eqb_true, ltb_yes, le_yes}
 use Rattle.rules.specs.Words.{Word, Below, below_drop}
 use Rattle.rules.specs.Answer.{within}
 use Rattle.rules.specs.Sheets.{PH, AW, CW, SM, Proof, row_bytes, word_bytes, words_bytes, proof_bytes}
-use Rattle.machine.specs.Lent.{all_pass, next_below, Sound}
+use Rattle.std.specs.List.{list_all}
+use Rattle.machine.specs.Lent.{next_below, Sound}
 use Rattle.machine.specs.LentLaws.{all_at}
 use Rattle.sheets.specs.Reading.{Parsed, good, and_then}
 use Rattle.sheets.specs.Proofs.{word_records, map_byte, proof_sheet, Counts, aw_record}
@@ -32,13 +33,12 @@ pub record Readable (P : Proof) : Type 0 where
   pub columns_many : length P.columns ≡ P.c
   pub columns : AllFit 1 93 P.k P.columns
   pub states_many : length P.state_map ≡ P.n
-  pub states : all_pass (map_byte P.m) P.state_map ≡ true
+  pub states : list_all (map_byte P.m) P.state_map ≡ true
 
 -- the same by index
 module _ (P : Proof) (r : Readable P) where
   -- the model is a machine as lent words have to be
   pub model_sound : Sound P.m P.k P.model
-  unfolding next_below
   model_sound = record {
     n_low = r.ranges.m_low;
     n_high = r.ranges.m_high;
@@ -119,7 +119,7 @@ header_read h rest r =
     )
     refl
 
-map_read : (m n : ℕ) (states : List ℕ) → length states ≡ n → all_pass (map_byte m) states ≡ true → map_record m n (SM ++ states) ≡ good states []
+map_read : (m n : ℕ) (states : List ℕ) → length states ≡ n → list_all (map_byte m) states ≡ true → map_record m n (SM ++ states) ≡ good states []
 unfolding map_record
 map_read m n states l p =
     rw (mark_read 0x53 0x4D states, le_yes n (length states) (omega arith), take_all n states (omega arith), drop_of_length-le states {i = n} (omega arith), p) refl

@@ -1,9 +1,10 @@
--- The parts of a proof sheet as the code reads them one by one, where each step leaves the sheet, and where the parts lie in it.
-use Rattle.std.specs.Prelude.{◌≡◌, refl, Bool, true, false, ◌&&◌, List, ℕ, zero, suc, ◌+◌, ◌*◌, ◌-◌, length, get_or, take, drop, ltb, leb}
+-- The parts of a proof sheet as the code reads them one by one, and where the parts lie in it.
+use Rattle.std.specs.Prelude.{◌≡◌, refl, Bool, true, false, ◌&&◌, List, ℕ, zero, suc, ◌+◌, ◌*◌, length, get_or, take, drop, ltb, leb}
 use Rattle.rules.specs.Words.{Word}
 use Rattle.rules.specs.Answer.{Answer, refused, gives, within}
 use Rattle.rules.specs.Sheets.{PH, AW, CW, SM, Proof, words_bytes}
-use Rattle.machine.specs.Lent.{all_pass, letters_below}
+use Rattle.std.specs.List.{list_all}
+use Rattle.machine.specs.Lent.{letters_below}
 use Rattle.sheets.specs.Reading.{Parsed, bad, good, Reader, pure, and_then, ◌>>=◌, ◌>>◌, demand, present, byte, grab, at_end, mark, rows}
 use Rattle.sheets.specs.Proofs.{word_records, map_byte, proof_sheet, Counts}
 
@@ -32,7 +33,7 @@ map_record m n = do
   mark SM
   present n
   states ← grab n
-  demand (all_pass (map_byte m) states) 4
+  demand (list_all (map_byte m) states) 4
   pure states
 
 -- what follows the header
@@ -51,7 +52,6 @@ in_range h = within 1 48 h.m && (within 1 12 h.k && (within 1 48 h.n && leb h.c 
 
 -- a word's record after its mark and its length
 unfoldable pub letters : ℕ → ℕ → ℕ → ℕ → Reader Word
-unfolding letters_below
 letters low high k size = do
   demand (within low high size) 6
   present size
@@ -59,10 +59,10 @@ letters low high k size = do
   demand (letters_below k w) 6
   pure w
 
--- where a step leaves the sheet: its refusal, or the place at which the next one begins
-abbrev pub after : {A : Type 0} → List ℕ → Parsed A → Answer ℕ
-after bytes (bad number) = refused number
-after bytes (good a rest) = gives (length bytes - length rest)
+-- what a step gives: its refusal, or its value
+abbrev pub given : {A : Type 0} → Parsed A → Answer A
+given (bad number) = refused number
+given (good a rest) = gives a
 
 -- ---- the sheet is its header and its body
 then_same : {A B : Type 0} (p : Parsed A) (f g : A → Reader B) → ((a : A) (rest : List ℕ) → f a rest ≡ g a rest) → and_then p f ≡ and_then p g
@@ -82,7 +82,7 @@ sheet_parts bytes =
     (λ u r. in_two (byte r) _ _ body (λ m r. in_two (byte r) _ _ body (λ k r. in_two (byte r) _ _ body (λ n r. in_two (byte r) _ _ body
     (λ c r. in_two (demand (within 1 48 m) 3 r) _ _ body (λ u r. in_two (demand (within 1 12 k) 3 r) _ _ body (λ u r. in_two (demand (within 1 48 n) 3 r) _ _ body (λ u r. in_two (demand (leb c 59) 3 r) _ _ body
     (λ u r. then_same (rows m k m r) _ _ (λ model r. then_same (word_records AW 0 47 k m r) _ _ (λ reaching r. then_same (word_records CW 1 93 k c r) _ _
-    (λ columns r. in_two (mark SM r) _ _ _ (λ u r. in_two (present n r) _ _ _ (λ u r. in_two (demand (all_pass (map_byte m) (take n r)) 4 (drop n r)) _ _ _ (λ u r. refl))))))))))))))))
+    (λ columns r. in_two (mark SM r) _ _ _ (λ u r. in_two (present n r) _ _ _ (λ u r. in_two (demand (list_all (map_byte m) (take n r)) 4 (drop n r)) _ _ _ (λ u r. refl))))))))))))))))
 
 -- ---- where the parts lie
 -- the place of the record number j, counted from the record at a place: each has a mark, a length and that many letters

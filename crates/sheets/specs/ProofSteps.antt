@@ -1,23 +1,22 @@
 -- A proof sheet step by step, as the code goes through it: header, state map, body.
-use Rattle.std.specs.Prelude.{◌≡◌, Bool, true, false, ◌&&◌, ℕ, ◌+◌, ◌-◌, ◌≤◌, ◌<◌, get_or, take, leb}
+use Rattle.std.specs.Prelude.{◌≡◌, Bool, true, false, ◌&&◌, ℕ, ◌≤◌, ◌<◌, get_or, take, leb}
 use Rattle.std.proofs.Math.Path.{refl, ap}
 use Rattle.std.proofs.Common.{sym, ap₂, ◌∙◌, subst, take-append-drop, length-take-le}
 use mathlib.Core.List.{List, [], ◌∷◌, ◌++◌}
 use native.Mathlib.Omega.{arith}
-use Rattle.std.proofs.Math.ListN.{length, drop, length-drop, drop_of_length-le}
-use Rattle.std.proofs.Math.Seq.{drop-cons}
+use Rattle.std.proofs.Math.ListN.{length, drop, length-drop}
 use borrow.Author.Tests.{le-leb, lt-leb}
 use Rattle.rules.specs.Tests.{leb_yes, and_split}
 use Rattle.rules.specs.Words.{Word}
 use Rattle.rules.specs.Answer.{refused, gives, within}
 use Rattle.rules.specs.Sheets.{PH, AW, CW, SM, Proof}
-use Rattle.machine.specs.Lent.{all_pass}
+use Rattle.std.specs.List.{list_all}
 use Rattle.machine.specs.LentLaws.{within_both}
 use Rattle.sheets.specs.Reading.{Parsed, bad, good, pure, and_then, ◌>>◌, demand, at_end, mark, rows}
 use Rattle.sheets.specs.Proofs.{word_records, map_byte, proof_sheet, Counts, counts_of, read_proof}
 use Rattle.sheets.specs.Steps.{outcome, came_good, came_bad, bad_good, then_good, demanded, two, mark_were, mark_took}
-use Rattle.sheets.specs.ProofParts.{counts, in_range, header, map_record, body, after, sheet_parts}
-use Rattle.sheets.specs.WordSteps.{clash, Went, went, after_bad, judged}
+use Rattle.sheets.specs.ProofParts.{counts, in_range, header, map_record, body, given, sheet_parts}
+use Rattle.sheets.specs.WordSteps.{given_good}
 
 -- ---- the header
 -- the numbers, as they stand
@@ -75,6 +74,9 @@ module _ (bytes : List ℕ) (marked : outcome (mark PH bytes) ≡ gives tt) wher
   header_judged true h e = ap outcome (header_opens h) ∙ rw e refl
   header_judged false h e = ap outcome (header_opens h) ∙ rw e refl
 
+  pub header_gives : 6 ≤ length bytes → in_range (counts_at bytes) ≡ true → given (header bytes) ≡ gives (counts_at bytes)
+  header_gives h e = ap given (header_opens h) ∙ rw e refl
+
 -- a header that came out good has six bytes, and its numbers are in range
 pub record Headed (bytes : List ℕ) : Type 0 where
   pub within : 6 ≤ length bytes
@@ -98,46 +100,28 @@ headed bytes g rest e =
       ranges = in_range_says (counts_at bytes) r.0;
     }
 
-pub header_good : (bytes : List ℕ) → outcome (header bytes) ≡ gives tt → Headed bytes
-header_good bytes e = let g = came_good (header bytes) e in headed bytes g.0 g.1 g.2
+-- so has one that gives its numbers, and they are those that stand there
+pub header_given : (bytes : List ℕ) (h : Counts) → given (header bytes) ≡ gives h → Headed bytes × (h ≡ counts_at bytes)
+header_given bytes h e =
+    let g = given_good (header bytes) h e in
+    let H = headed bytes h g.0 g.1 in
+    let z : ◌≡◌ {A = Parsed Counts} (good h g.0) (good (counts_at bytes) (drop 6 bytes)) = sym g.1 ∙ H.is in
+    (H, cc)
 
 -- ---- the state map
-pub map_were : (m n : ℕ) (bytes states rest : List ℕ) → map_record m n bytes ≡ good states rest → (bytes ≡ SM ++ (states ++ rest)) × (length states ≡ n) × (all_pass (map_byte m) states ≡ true)
+pub map_were : (m n : ℕ) (bytes states rest : List ℕ) → map_record m n bytes ≡ good states rest → (bytes ≡ SM ++ (states ++ rest)) × (length states ≡ n) × (list_all (map_byte m) states ≡ true)
 unfolding map_record
 map_were m n bytes states rest e =
     let a = then_good (mark SM bytes) _ states rest e in
     let t = mark_were SM bytes a.0 a.1 a.2 in
     let b = demanded (leb n (length a.1)) 1 a.1 _ states rest a.3 in
-    let d = demanded (all_pass (map_byte m) (take n a.1)) 4 (drop n a.1) _ states rest b.1 in
+    let d = demanded (list_all (map_byte m) (take n a.1)) 4 (drop n a.1) _ states rest b.1 in
     let v : take n a.1 ≡ states = cc in
     let r : drop n a.1 ≡ rest = cc in (
       sym (take-append-drop 2 bytes) ∙ ap₂ ◌++◌ t.2 (sym t.1 ∙ sym (take-append-drop n a.1) ∙ ap₂ ◌++◌ v r),
       sym (ap length v) ∙ length-take-le n a.1 (leb_yes n (length a.1) b.0),
-      subst (λ (l : List ℕ). all_pass (map_byte m) l ≡ true) v d.0,
+      subst (λ (l : List ℕ). list_all (map_byte m) l ≡ true) v d.0,
     )
-
-module _ (bytes : List ℕ) (at : ℕ) (low : at ≤ length bytes) (m n : ℕ) where
-  pub map_went : (next : ℕ) → after bytes (map_record m n (drop at bytes)) ≡ gives next → Went (map_record m n (drop at bytes)) bytes next
-  map_went next = went (map_record m n (drop at bytes)) bytes at next low (λ states rest e. (SM ++ states, (map_were m n (drop at bytes) states rest e).0))
-
-  pub map_refused : (x : ℕ) → outcome (mark SM (drop at bytes)) ≡ refused x → after bytes (map_record m n (drop at bytes)) ≡ refused x
-  unfolding map_record
-  map_refused x e = rw (came_bad (mark SM (drop at bytes)) x e)
-
-  pub map_short : outcome (mark SM (drop at bytes)) ≡ gives tt → length bytes < at + 2 + n → after bytes (map_record m n (drop at bytes)) ≡ refused 1
-  unfolding map_record
-  map_short e h =
-      let t = mark_took bytes at low SM e in
-      let l : length (drop (at + 2) bytes) < n = simp length-drop (omega (arith, t.within)) in
-      rw (t.is, lt-leb n (length (drop (at + 2) bytes)) l)
-
-  pub map_judged : (t : Bool) → outcome (mark SM (drop at bytes)) ≡ gives tt → at + 2 + n ≤ length bytes → all_pass (map_byte m) (take (at + 2 + n - (at + 2)) (drop (at + 2) bytes)) ≡ t
-      → after bytes (map_record m n (drop at bytes)) ≡ elim t [ false ↦ refused 4 | true ↦ gives (at + 2 + n) ]
-  unfolding map_record
-  map_judged t e h f =
-      let size : at + 2 + n - (at + 2) ≡ n = omega arith in
-      let l : n ≤ length (drop (at + 2) bytes) = simp length-drop (omega arith) in
-      rw ((mark_took bytes at low SM e).is, le-leb n (length (drop (at + 2) bytes)) l, rw size at f) (judged bytes (at + 2) n 4 t h)
 
 -- ---- the body
 -- its parts, one after the other
@@ -185,39 +169,6 @@ parts h bytes P rest e =
         }
     ended model r₁ reaching r₂ columns r₃ states (x ∷ r₄) a b d f g = absurd (bad_good g)
 
--- as the code goes through it: each step refused, bytes left over, and the end
-module _ (h : Counts) (bytes : List ℕ) where
-  pub body_model : (x : ℕ) → outcome (rows h.m h.k h.m (drop 6 bytes)) ≡ refused x → after bytes (body h (drop 6 bytes)) ≡ refused x
-  unfolding body
-  body_model x e = rw (came_bad (rows h.m h.k h.m (drop 6 bytes)) x e)
-
-  module _ (start : ℕ) (model : Went (rows h.m h.k h.m (drop 6 bytes)) bytes start) where
-    pub body_reaching : (x : ℕ) → after bytes (word_records AW 0 47 h.k h.m (drop start bytes)) ≡ refused x → after bytes (body h (drop 6 bytes)) ≡ refused x
-    unfolding body
-    body_reaching x e = rw (model.is, after_bad (word_records AW 0 47 h.k h.m (drop start bytes)) bytes x e)
-
-    module _ (next : ℕ) (reaching : Went (word_records AW 0 47 h.k h.m (drop start bytes)) bytes next) where
-      pub body_columns : (x : ℕ) → after bytes (word_records CW 1 93 h.k h.c (drop next bytes)) ≡ refused x → after bytes (body h (drop 6 bytes)) ≡ refused x
-      unfolding body
-      body_columns x e = rw (model.is, reaching.is, after_bad (word_records CW 1 93 h.k h.c (drop next bytes)) bytes x e)
-
-      module _ (last : ℕ) (columns : Went (word_records CW 1 93 h.k h.c (drop next bytes)) bytes last) where
-        pub body_map : (x : ℕ) → after bytes (map_record h.m h.n (drop last bytes)) ≡ refused x → after bytes (body h (drop 6 bytes)) ≡ refused x
-        unfolding body
-        body_map x e = rw (model.is, reaching.is, columns.is, after_bad (map_record h.m h.n (drop last bytes)) bytes x e)
-
-        module _ (end : ℕ) (states : Went (map_record h.m h.n (drop last bytes)) bytes end) where
-          pub body_left_over : end < length bytes → after bytes (body h (drop 6 bytes)) ≡ refused 5
-          unfolding body
-          body_left_over l = rw (model.is, reaching.is, columns.is, states.is, drop-cons bytes end 0 l)
-
-          pub body_end : length bytes ≤ end → after bytes (body h (drop 6 bytes)) ≡ gives end
-          unfolding body
-          body_end l =
-              let none : drop end bytes ≡ [] = drop_of_length-le bytes {i = end} l in
-              let w = states.within in
-              rw (model.is, reaching.is, columns.is, states.is, none) (ap gives (omega arith))
-
 -- ---- the whole sheet
 pub read_header : (bytes : List ℕ) (x : ℕ) → outcome (header bytes) ≡ refused x → read_proof bytes ≡ refused x
 unfolding read_proof
@@ -227,14 +178,12 @@ module _ (bytes : List ℕ) (head : Headed bytes) where
   sheet_body_is : proof_sheet bytes ≡ body (counts_at bytes) (drop 6 bytes)
   sheet_body_is = sheet_parts bytes ∙ ap (λ (p : Parsed Counts). and_then p body) head.is
 
-  pub read_body : (x : ℕ) → after bytes (body (counts_at bytes) (drop 6 bytes)) ≡ refused x → read_proof bytes ≡ refused x
+  pub read_body : (x : ℕ) → outcome (body (counts_at bytes) (drop 6 bytes)) ≡ refused x → read_proof bytes ≡ refused x
   unfolding read_proof
-  read_body x e = ap counts_of (sheet_body_is ∙ after_bad (body (counts_at bytes) (drop 6 bytes)) bytes x e)
+  read_body x e = ap counts_of (sheet_body_is ∙ came_bad (body (counts_at bytes) (drop 6 bytes)) x e)
 
-  pub read_counts : (end : ℕ) → after bytes (body (counts_at bytes) (drop 6 bytes)) ≡ gives end → read_proof bytes ≡ gives (counts_at bytes)
+  pub read_counts : outcome (body (counts_at bytes) (drop 6 bytes)) ≡ gives tt → read_proof bytes ≡ gives (counts_at bytes)
   unfolding read_proof
-  read_counts end e = ap counts_of sheet_body_is ∙ whole (body (counts_at bytes) (drop 6 bytes)) refl e
-    where
-      whole : (p : Parsed Proof) → body (counts_at bytes) (drop 6 bytes) ≡ p → after bytes p ≡ gives end → counts_of p ≡ gives (counts_at bytes)
-      whole (bad x) g e = absurd (clash e)
-      whole (good P rest) g e = ap gives (parts (counts_at bytes) (drop 6 bytes) P rest g).said
+  read_counts e =
+      let g = came_good (body (counts_at bytes) (drop 6 bytes)) e in
+      ap counts_of sheet_body_is ∙ ap counts_of g.2 ∙ ap gives (parts (counts_at bytes) (drop 6 bytes) g.0 g.1 g.2).said

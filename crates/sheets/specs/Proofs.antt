@@ -3,12 +3,13 @@ use Rattle.std.specs.Prelude.{Bool, true, false, ◌||◌, List, [], ◌∷◌, 
 use Rattle.rules.specs.Words.{Word}
 use Rattle.rules.specs.Answer.{Answer, refused, gives, within}
 use Rattle.rules.specs.Sheets.{PH, AW, CW, SM, Proof, word_bytes}
-use Rattle.machine.specs.Lent.{all_pass, letters_below}
+use Rattle.std.specs.List.{list_all}
+use Rattle.machine.specs.Lent.{letters_below}
 use Rattle.sheets.specs.Reading.{Parsed, bad, good, Reader, pure, ◌>>=◌, ◌>>◌, demand, present, byte, grab, at_end, mark, rows}
 
 -- one record of a word: mark, length low to high, letters below k
 unfoldable pub word_record : List ℕ → ℕ → ℕ → ℕ → Reader Word
-unfolding mark letters_below
+unfolding mark
 word_record due low high k = do
   mark due
   length ← byte
@@ -31,7 +32,7 @@ abbrev pub map_byte : ℕ → ℕ → Bool
 map_byte m b = ltb b m || eqb b 255
 
 unfoldable pub proof_sheet : Reader Proof
-unfolding mark rows word_records all_pass
+unfolding mark rows word_records
 proof_sheet = do
   mark PH
   present 4
@@ -49,7 +50,7 @@ proof_sheet = do
   mark SM
   present n
   states ← grab n
-  demand (all_pass (map_byte m) states) 4
+  demand (list_all (map_byte m) states) 4
   at_end
   pure (record { m = m; k = k; n = n; c = c; model = model; reaching = reaching; columns = columns; state_map = states })
 

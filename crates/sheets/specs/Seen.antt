@@ -2,7 +2,8 @@
 use Rattle.std.specs.Prelude.{◌≡◌, true, [], ℕ, ◌*◌, ◌≤◌, ◌<◌, length, get_or}
 use Rattle.rules.specs.Words.{Below}
 use Rattle.rules.specs.Sheets.{Proof}
-use Rattle.machine.specs.Lent.{all_pass, next_below}
+use Rattle.std.specs.List.{list_all}
+use Rattle.machine.specs.Lent.{next_below}
 use Rattle.sheets.specs.Proofs.{map_byte}
 
 pub record Seen (P : Proof) : Type 0 where
@@ -27,4 +28,4 @@ pub record Seen (P : Proof) : Type 0 where
   pub columns_letters : (c : ℕ) → c < P.c → Below P.k (get_or P.columns c [])
   -- n bytes, each below m or 255
   pub map_long : length P.state_map ≡ P.n
-  pub map_bytes_pass : all_pass (map_byte P.m) P.state_map ≡ true
+  pub map_bytes_pass : list_all (map_byte P.m) P.state_map ≡ true

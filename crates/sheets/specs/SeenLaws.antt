@@ -6,7 +6,8 @@ use Rattle.rules.specs.Tests.{and_split, or_split, eqb_true, ltb_yes}
 use Rattle.rules.specs.Words.{Word, Below, below_append, below_take, below_drop}
 use Rattle.rules.specs.Sheets.{AW, CW, SM, Proof, pair_bytes, row_bytes, word_bytes, words_bytes, proof_bytes}
 use Rattle.rules.specs.ProofLength.{proof_most}
-use Rattle.machine.specs.Lent.{all_pass, next_below}
+use Rattle.std.specs.List.{list_all}
+use Rattle.machine.specs.Lent.{next_below}
 use Rattle.sheets.specs.Reading.{good}
 use Rattle.sheets.specs.Proofs.{map_byte, proof_sheet}
 use Rattle.sheets.specs.WordRecords.{Fits, AllFit}
@@ -70,10 +71,9 @@ two_below : (x y : ℕ) (bytes : List ℕ) → x < 256 → y < 256 → Below 256
 two_below x y bytes hx hy b = (hx, (hy, b))
 
 words_below : (m : ℕ) (words : List ℕ) → m ≤ 256 → next_below m words ≡ true → Below 65536 words
-unfolding next_below all_pass
 words_below m [] h e = tt
 words_below m (x ∷ words) h e =
-    let s = and_split (ltb (x / 256) m) (all_pass (λ (x : ℕ). ltb (x / 256) m) words) e in
+    let s = and_split (ltb (x / 256) m) (list_all (λ (x : ℕ). ltb (x / 256) m) words) e in
     let l = ltb_yes (x / 256) m s.0 in
     (omega arith, words_below m words h s.1)
 
@@ -97,11 +97,10 @@ records_below x y low high k (w ∷ words) hx hy hh hk f =
     two_below x y (length w ∷ (w ++ words_bytes (x ∷ y ∷ []) words)) hx hy
     (omega arith, below_append 256 w (words_bytes (x ∷ y ∷ []) words) (below_more k 256 w hk f.0.2) (records_below x y low high k words hx hy hh hk f.1))
 
-map_below : (m : ℕ) (states : List ℕ) → m ≤ 256 → all_pass (map_byte m) states ≡ true → Below 256 states
-unfolding all_pass
+map_below : (m : ℕ) (states : List ℕ) → m ≤ 256 → list_all (map_byte m) states ≡ true → Below 256 states
 map_below m [] h e = tt
 map_below m (x ∷ states) h e =
-    let s = and_split (map_byte m x) (all_pass (map_byte m) states) e in
+    let s = and_split (map_byte m x) (list_all (map_byte m) states) e in
     (byte (or_split (ltb x m) (eqb x 255) s.0), map_below m states h s.1)
   where
     byte : (ltb x m ≡ true) ⊎ (eqb x 255 ≡ true) → x < 256

@@ -1,13 +1,14 @@
--- Reading step by step: what a step comes to, how far it reads, and what it reads. The code checks a step first and takes the values after.
-use Rattle.std.specs.Prelude.{◌≡◌, refl, Bool, true, false, ◌&&◌, List, [], ◌∷◌, ◌++◌, take, drop, eqb, ltb, leb}
-use Rattle.std.proofs.Common.{sym, ap, ap₂, ◌∙◌, subst, append_assoc, suc-mul, zero-mul, zero-add, length-append, take-append-drop, drop-cons, drop-drop, take_at, drop_at}
+-- Reading step by step: what a step comes to, how far it reads, and what it reads. The code takes the values after a step that came out good.
+use Rattle.std.specs.Prelude.{◌≡◌, ◌≢◌, refl, Bool, true, false, List, [], ◌∷◌, ◌++◌, take, drop, ltb, leb}
+use Rattle.std.proofs.Common.{sym, true≢false, ap, ap₂, ◌∙◌, subst, append_assoc, suc-mul, zero-mul, zero-add, length-append, take-append-drop, drop-cons, drop-drop, take_at, drop_at}
 use Prim.Native.Nat.{ℕ, zero, suc, ◌+◌, ◌*◌, ◌-◌, ◌/◌, ◌%◌, ◌≤◌, ◌<◌}
 use native.Mathlib.Omega.{arith}
 use Rattle.std.proofs.Math.ListN.{length, get_or, length-drop}
 use borrow.Author.Tests.{le-leb, lt-leb, lt-ltb, le-ltb}
-use Rattle.rules.specs.Tests.{eqs, eqs_true, leb_yes, and_split}
+use Rattle.rules.specs.Tests.{eqs, eqs_true, eqs_same, eqs_is, leb_yes, and_split}
 use Rattle.rules.specs.Words.{Below, below_drop}
-use Rattle.machine.specs.Lent.{next_below, all_pass}
+use Rattle.std.specs.List.{list_all}
+use Rattle.machine.specs.Lent.{next_below}
 use Rattle.rules.specs.Answer.{Answer, refused, gives}
 use Rattle.rules.specs.Sheets.{MR, pair_bytes, row_bytes}
 use Rattle.sheets.specs.Standing.{pair_words, row_words}
@@ -83,12 +84,13 @@ pub mark_short : (due bytes : List ℕ) → length bytes < 2 → mark due bytes 
 unfolding mark
 mark_short due bytes h = rw (lt-leb 2 (length bytes) h)
 
-pub mark_two : (x y : ℕ) (bytes : List ℕ) (at : ℕ) → at + 2 ≤ length bytes
-    → mark (x ∷ y ∷ []) (drop at bytes) ≡ demand (eqb (get_or bytes at 0) x && (eqb (get_or bytes (at + 1) 0) y && true)) 2 (drop (at + 2) bytes)
-unfolding mark eqs
-mark_two x y bytes at h =
-    let l : leb 2 (suc (suc (length (drop (at + 2) bytes)))) ≡ true = le-leb 2 (suc (suc (length (drop (at + 2) bytes)))) (omega arith) in
-    rw (two bytes at h, l)
+pub mark_same : (due bytes : List ℕ) → 2 ≤ length bytes → take 2 bytes ≡ due → mark due bytes ≡ good tt (drop 2 bytes)
+unfolding mark
+mark_same due bytes h e = rw (le-leb 2 (length bytes) h, e, eqs_same due) refl
+
+pub mark_other : (due bytes : List ℕ) → 2 ≤ length bytes → take 2 bytes ≢ due → mark due bytes ≡ bad 2
+unfolding mark
+mark_other due bytes h d = rw (le-leb 2 (length bytes) h, sym (eqs_is false (take 2 bytes) due (λ e. absurd (true≢false (sym e))) (λ e. absurd (d e)))) refl
 
 -- a mark that came out good was two bytes
 pub mark_were : (due bytes : List ℕ) (u : Unit {0}) (rest : List ℕ) → mark due bytes ≡ good u rest → (2 ≤ length bytes) × (rest ≡ drop 2 bytes) × (take 2 bytes ≡ due)
@@ -109,7 +111,7 @@ pub record Read (n count size : ℕ) (bytes rest words standing spelling : List 
   pub spelt : Below 256 bytes → bytes ≡ spelling ++ rest
 
 pub pairs_were : (n k : ℕ) (bytes words rest : List ℕ) → pairs n k bytes ≡ good words rest → Read n (2 * k) k bytes rest words (pair_words k bytes) (pair_bytes words)
-unfolding pairs pair_words pair_bytes next_below all_pass
+unfolding pairs pair_words pair_bytes
 pairs_were n zero bytes words rest e =
     let w : words ≡ [] = cc in
     let c : rest ≡ bytes = cc in
@@ -141,15 +143,13 @@ pairs_were n (suc k) (o ∷ x ∷ bytes) words rest e =
               rw (u, v) (ap {B = List ℕ} (λ (l : List ℕ). o ∷ x ∷ l) (i.spelt b.1.1));
         })
 
-all_append : (p : ℕ → Bool) (xs ys : List ℕ) → all_pass p xs ≡ true → all_pass p ys ≡ true → all_pass p (xs ++ ys) ≡ true
-unfolding all_pass
+all_append : (p : ℕ → Bool) (xs ys : List ℕ) → list_all p xs ≡ true → list_all p ys ≡ true → list_all p (xs ++ ys) ≡ true
 all_append p [] ys a b = b
-all_append p (x ∷ xs) ys a b = let s = and_split (p x) (all_pass p xs) a in rw s.0 (all_append p xs ys s.1 b)
+all_append p (x ∷ xs) ys a b = let s = and_split (p x) (list_all p xs) a in rw s.0 (all_append p xs ys s.1 b)
 
 -- words that were read one after the other
 pub read_then : {n c d i j : ℕ} {bytes between rest words others there after spelling end : List ℕ} → Read n c i bytes between words there spelling → Read n d j between rest others after end
     → Read n (c + d) (i + j) bytes rest (words ++ others) (there ++ after) (spelling ++ end)
-unfolding next_below
 read_then {n} {c} {d} {i} {j} {bytes} {between} {rest} {words} {others} {there} {after} {spelling} {end} a b =
     let low : Below 256 bytes → Below 256 between = λ h. subst (λ (l : List ℕ). Below 256 l) (sym a.after) (below_drop 256 c bytes h) in
     record {
@@ -162,7 +162,7 @@ read_then {n} {c} {d} {i} {j} {bytes} {between} {rest} {words} {others} {there} 
     }
 
 pub row_were : (n k : ℕ) (bytes words rest : List ℕ) → row n k bytes ≡ good words rest → Read n (2 + 2 * k) k bytes rest words (pair_words k (drop 2 bytes)) (MR ++ pair_bytes words)
-unfolding row next_below all_pass
+unfolding row
 row_were n k bytes words rest e =
     let a = then_good (mark MR bytes) _ words rest e in
     let m = mark_were MR bytes a.0 a.1 a.2 in
@@ -184,7 +184,7 @@ unfolding rows row
 rows_first n k r bytes = then_in (mark MR bytes) (present (2 * k)) (pairs n k) (λ words. ◌>>=◌ (rows n k r) (λ others. pure (words ++ others)))
 
 pub rows_were : (n k r : ℕ) (bytes words rest : List ℕ) → rows n k r bytes ≡ good words rest → Read n (r * (2 + 2 * k)) (r * k) bytes rest words (row_words k r bytes) (row_bytes k r words)
-unfolding rows row_words row_bytes next_below all_pass
+unfolding rows row_words row_bytes
 rows_were n k zero bytes words rest e =
     let w : words ≡ [] = cc in
     let c : rest ≡ bytes = cc in
@@ -231,44 +231,6 @@ module _ (bytes : List ℕ) (at : ℕ) (low : at ≤ length bytes) where
   pub pairs_took : (n k : ℕ) → outcome (pairs n k (drop at bytes)) ≡ gives tt → Took (pairs n k (drop at bytes)) bytes at (2 * k)
   pairs_took n k = took_at (pairs n k) (2 * k) (λ b a rest e. let m = pairs_were n k b a rest e in (m.within, m.after)) bytes at low
 
-  pub row_took : (n k : ℕ) → outcome (row n k (drop at bytes)) ≡ gives tt → Took (row n k (drop at bytes)) bytes at (2 + 2 * k)
-  row_took n k = took_at (row n k) (2 + 2 * k) (λ b a rest e. let m = row_were n k b a rest e in (m.within, m.after)) bytes at low
-
-  pub rows_took : (n k r : ℕ) → outcome (rows n k r (drop at bytes)) ≡ gives tt → Took (rows n k r (drop at bytes)) bytes at (r * (2 + 2 * k))
-  rows_took n k r = took_at (rows n k r) (r * (2 + 2 * k)) (λ b a rest e. let m = rows_were n k r b a rest e in (m.within, m.after)) bytes at low
-
-  -- a row: its mark refused; its bytes not present; its pairs
-  pub row_refused : (n k x : ℕ) → outcome (mark MR (drop at bytes)) ≡ refused x → outcome (row n k (drop at bytes)) ≡ refused x
-  unfolding row
-  row_refused n k x e = rw (came_bad (mark MR (drop at bytes)) x e)
-
-  pub row_short : (n k : ℕ) → outcome (mark MR (drop at bytes)) ≡ gives tt → length bytes < at + (2 + 2 * k) → outcome (row n k (drop at bytes)) ≡ refused 1
-  unfolding row
-  row_short n k e h =
-      let t = mark_took MR e in
-      let l : length (drop (at + 2) bytes) < 2 * k = simp length-drop (omega (arith, t.within)) in
-      rw (t.is, lt-leb (2 * k) (length (drop (at + 2) bytes)) l)
-
-  pub row_present : (n k : ℕ) → outcome (mark MR (drop at bytes)) ≡ gives tt → at + (2 + 2 * k) ≤ length bytes
-      → outcome (row n k (drop at bytes)) ≡ outcome (pairs n k (drop (at + 2) bytes))
-  unfolding row
-  row_present n k e h =
-      let l : 2 * k ≤ length (drop (at + 2) bytes) = simp length-drop (omega arith) in
-      rw ((mark_took MR e).is, le-leb (2 * k) (length (drop (at + 2) bytes)) l)
-
-  -- one of the rows that are left: refused, or passed
-  pub rows_refused : (n k left x : ℕ) → 0 < left → outcome (row n k (drop at bytes)) ≡ refused x → outcome (rows n k left (drop at bytes)) ≡ refused x
-  rows_refused n k zero x h e = absurd (omega arith)
-  rows_refused n k (suc left) x h e = rw (rows_first n k left (drop at bytes), came_bad (row n k (drop at bytes)) x e)
-
-  pub rows_passed : (n k left : ℕ) → 0 < left → outcome (row n k (drop at bytes)) ≡ gives tt
-      → outcome (rows n k left (drop at bytes)) ≡ outcome (rows n k (left - 1) (drop (at + (2 + 2 * k)) bytes))
-  rows_passed n k zero h e = absurd (omega arith)
-  rows_passed n k (suc left) h e =
-      let t = row_took n k e in
-      let m : suc left - 1 ≡ left = omega arith in
-      rw (m, rows_first n k left (drop at bytes), t.is) (outcome_made (rows n k left (drop (at + (2 + 2 * k)) bytes)) (λ others. t.value ++ others))
-
 -- one of the pairs that are left: refused, or passed
 module _ (bytes : List ℕ) (at : ℕ) (within : at + 2 ≤ length bytes) where
   pub pairs_refused : (n left : ℕ) → 0 < left → n ≤ get_or bytes (at + 1) 0 → outcome (pairs n left (drop at bytes)) ≡ refused 4
@@ -287,7 +249,3 @@ module _ (bytes : List ℕ) (at : ℕ) (within : at + 2 ≤ length bytes) where
 pub pairs_end : (n : ℕ) (bytes : List ℕ) → outcome (pairs n 0 bytes) ≡ gives tt
 unfolding pairs
 pairs_end n bytes = refl
-
-pub rows_end : (n k : ℕ) (bytes : List ℕ) → outcome (rows n k 0 bytes) ≡ gives tt
-unfolding rows
-rows_end n k bytes = refl

@@ -1,78 +1,58 @@
-// Reading steps: each is checked where it stands, by the bytes from `at` on, and answers the refusal that the paper's order gives first.
-// A step that came out sound has its bytes, so the caller takes its values from their places and goes on after it.
-ghost use Rattle.std.specs.Prelude.{◌≡◌, ◌∷◌, [], ℕ, ◌+◌, ◌*◌, ◌≤◌, length, get_or, drop};
-ghost use Rattle.machine.specs.Answers.{checked};
+// Reading steps. Each takes the bytes that are left, and gives those that follow it, or the refusal that the paper's order gives first. The
+// caller takes the values from the bytes that a sound step has passed. The limits n and k and the count r come as numbers: no machine is
+// there yet.
+ghost use Rattle.std.specs.Prelude.{◌≡◌, ◌*◌, ◌≤◌, length};
 ghost use Rattle.sheets.specs.Reading.{mark, pairs, rows};
-ghost use Rattle.sheets.specs.Steps.{outcome, row};
+ghost use Rattle.sheets.specs.Steps.{row};
+ghost use Rattle.sheets.specs.Rests.{rest_of, follows};
 
-use machine::Checked;
-use machine::refusal::Refusal;
+use machine::Refusal;
 
 // Mark present (1), mark right (2).
-pub(crate) fn mark_check(bytes: &[u8], at: usize, due: &[u8; 2]) -> Checked
-    requires { at ≤ length bytes.now }
-    ensures { checked result ≡ outcome (mark (get_or due.now 0 0 ∷ get_or due.now 1 0 ∷ []) (drop at bytes.now)) }
+pub(crate) fn mark<'a>(bytes: &'a [u8], due: &[u8; 2]) -> Result<&'a [u8], Refusal>
+    ensures { rest_of result ≡ follows (mark due.now bytes.entry.now) }
 {
-    if bytes.len() - at < 2 {
-        return Checked::Refused(Refusal::EndsEarly);
+    let [first, second, rest @ ..] = bytes else {
+        return Err(Refusal::EndsEarly);
+    };
+    if [*first, *second] != *due {
+        return Err(Refusal::WrongMark);
     }
-    if bytes[at] != due[0] {
-        return Checked::Refused(Refusal::WrongMark);
-    }
-    if bytes[at + 1] != due[1] {
-        return Checked::Refused(Refusal::WrongMark);
-    }
-    Checked::Sound
+    Ok(rest)
 }
 
 // `k` pairs that are present: each next state is below `n` (4).
-fn pairs_check(bytes: &[u8], at: usize, n: usize, k: usize) -> Checked
-    requires { at + 2 * k ≤ length bytes.now }
-    ensures { checked result ≡ outcome (pairs n k (drop at bytes.now)) }
+fn pairs<'a>(bytes: &'a [u8], n: usize, k: usize) -> Result<&'a [u8], Refusal>
+    requires { 2 * k ≤ length bytes.now }
+    ensures { rest_of result ≡ follows (pairs n k bytes.entry.now) }
 {
-    let mut place = at;
-    let mut left = k;
-    while 0 < left {
-        if n <= machine::wide(bytes[place + 1]) {
-            return Checked::Refused(Refusal::NoSuchState);
+    for i in 0..k {
+        if n <= usize::from(bytes[2 * i + 1]) {
+            return Err(Refusal::NoSuchState);
         }
-        place += 2;
-        left -= 1;
     }
-    Checked::Sound
+    Ok(&bytes[2 * k..])
 }
 
 // One row: its mark, then its bytes present (1), then its pairs.
-pub(crate) fn row_check(bytes: &[u8], at: usize, n: usize, k: usize) -> Checked
-    requires { at ≤ length bytes.now }
-    ensures { checked result ≡ outcome (row n k (drop at bytes.now)) }
+fn row<'a>(bytes: &'a [u8], n: usize, k: usize) -> Result<&'a [u8], Refusal>
+    ensures { rest_of result ≡ follows (row n k bytes.entry.now) }
 {
-    let c = mark_check(bytes, at, b"MR");
-    if let Checked::Refused(r) = c {
-        return Checked::Refused(r);
-    }
-    let place = at + 2;
+    let rest = mark(bytes, b"MR")?;
     // What is left is halved: `k` may be too large to be doubled.
-    if (bytes.len() - place) / 2 < k {
-        return Checked::Refused(Refusal::EndsEarly);
+    if rest.len() / 2 < k {
+        return Err(Refusal::EndsEarly);
     }
-    pairs_check(bytes, place, n, k)
+    pairs(rest, n, k)
 }
 
 // `r` rows, one after the other.
-pub(crate) fn rows_check(bytes: &[u8], at: usize, n: usize, k: usize, r: usize) -> Checked
-    requires { at ≤ length bytes.now }
-    ensures { checked result ≡ outcome (rows n k r (drop at bytes.now)) }
+pub(crate) fn rows<'a>(bytes: &'a [u8], n: usize, k: usize, r: usize) -> Result<&'a [u8], Refusal>
+    ensures { rest_of result ≡ follows (rows n k r bytes.entry.now) }
 {
-    let mut place = at;
-    let mut left = r;
-    while 0 < left {
-        let c = row_check(bytes, place, n, k);
-        if let Checked::Refused(x) = c {
-            return Checked::Refused(x);
-        }
-        place += 2 + 2 * k;
-        left -= 1;
+    let mut rest = bytes;
+    for _ in 0..r {
+        rest = row(rest, n, k)?;
     }
-    Checked::Sound
+    Ok(rest)
 }

@@ -1,46 +1,32 @@
+use Rattle.std.proofs.Common.{◌≡◌, ◌<◌, ◌≤◌, ◌+◌, ◌++◌, ◌∷◌, [], ℕ, length, get_or, take, refl, sym, ap, ◌∙◌, arith, add-one, take-suc}
 use Rattle.rules.specs.Areas.{put_none}
 use Rattle.rules.specs.Sheets.{words_bytes}
-use Rattle.areas.specs.Store.{slot, stored}
-use Rattle.finish.proofs.Sheet.{slot_room, record_room, record_ends, record_put}
-use borrow.Author.Rules.{rules}
-use native.Mathlib.Omega.{arith}
-use mathlib.Core.Path.{◌≡◌, refl, sym, ap, ◌∙◌}
-use Prim.Native.Nat.{ℕ, ◌+◌}
-use lib.ListN.{length}
+use Rattle.rules.specs.SheetLaws.{room}
+use Rattle.rules.specs.Records.{words_more_length}
+use Rattle.finish.specs.Sheet.{mark_of}
+use Rattle.finish.proofs.Sheet.{record_put}
 use Rattle.finish.proofs.put_records.Goals as goal
 
 pub loop-j-init : goal.loop-j-init
-unfolding stored words_bytes
-loop-j-init c = let a = c.args in (search rules, omega arith, refl, sym (put_none a.at a.sheet.now))
-
-pub put_record-end-requires : goal.put_record-end-requires
-put_record-end-requires c =
-    let a = c.args in
-    let l = c.loop-j in
-    let S = c.requires.slots in record {
-      width_in_bounds = (slot_room a.mark.now S l.j c.loop-j-test.true, S.fits l.j c.loop-j-test.true);
-      width_in_bounds_2 = omega (
-        arith,
-        l.invariant.1,
-        l.invariant.2,
-        record_room a.mark.now S a.at (length a.sheet.now) l.j c.requires.width_in_bounds c.loop-j-test.true,
-      );
-    }
+unfolding words_bytes
+loop-j-init g c = record { size = refl; end = omega arith; few = omega arith; put = sym (put_none c.args.at c.args.sheet.now) }
 
 pub loop-j-preserved : goal.loop-j-preserved
-loop-j-preserved c =
+loop-j-preserved g c =
     let a = c.args in
     let l = c.loop-j in
-    let S = c.requires.slots in (
-      search rules,
-      c.put_record-end.ensures.value ∙ ap (λ (x : ℕ). x + (3 + length (slot a.width a.store.now l.j))) l.invariant.1 ∙
-          record_ends a.mark.now S a.at l.j,
-      search rules,
-      c.put_record-end.ensures.sheet_after ∙ rw (l.invariant.1, l.invariant.3)
-          (record_put a.mark.now S a.at l.j a.sheet.now c.requires.width_in_bounds c.loop-j-test.true),
-    )
-
-pub returns : goal.returns
-returns c =
-    let z : c.loop-j.j ≡ c.args.count = omega arith in
-    record { value = rw z at c.loop-j.invariant.1; sheet_after = rw z at c.loop-j.invariant.3 }
+    let mark = mark_of a.mark.now in
+    let front = take l.j a.words.now in
+    let w = get_or a.words.now l.j [] in
+    let there : l.j < length a.words.now = omega (arith, c.loop-j-test.true, c.len-j-end.ensures) in
+    let more : take (l.j + 1) a.words.now ≡ front ++ (w ∷ []) = ap (λ (n : ℕ). take n a.words.now) (add-one l.j) ∙ take-suc a.words.now l.j [] there in
+    let size = words_more_length mark refl front w in
+    let short : length w < g.row.WIDTH = rw c.word.ensures.word at c.word.ensures.short in
+    let fits : a.at + (length (words_bytes mark front) + (3 + length w)) ≤ length a.sheet.now =
+    omega (arith, l.invariant.few, short, c.requires.room, room l.j (length a.words.now) (g.row.WIDTH + 2) there) in
+    rw more (record {
+      size = c.put_record-end.auto.sheet ∙ l.invariant.size;
+      end = omega (arith, c.put_record-end.ensures.value, ap length c.word.ensures.word, l.invariant.end, size);
+      few = omega (arith, l.invariant.few, size, short);
+      put = record_put mark refl a.at front w a.sheet.now c.word.ensures.word l.invariant.end l.invariant.put c.put_record-end.ensures.sheet_after fits;
+    })

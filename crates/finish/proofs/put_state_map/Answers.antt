@@ -1,34 +1,20 @@
-use mathlib.Core.List.{map}
-use Rattle.rules.specs.Areas.{put}
-use Rattle.rules.specs.Table.{from}
+use Rattle.std.proofs.Common.{◌+◌, map, ap, ◌∙◌, arith}
+use Rattle.rules.specs.Areas.{put, put_put}
 use Rattle.rules.specs.Machine.{lent}
-use Rattle.machine.specs.Lent.{link}
-use Rattle.machine.specs.LentLaws.{sound_steps, steps_complete}
-use Rattle.areas.specs.Store.{stored}
-use Rattle.finish.specs.Sheet.{mapped}
-use Rattle.finish.proofs.Sheet.{numbered_kept, numbered_few, map_put}
-use native.Mathlib.Omega.{arith}
-use mathlib.Core.Path.{ap, ◌∙◌}
-use Prim.Native.Nat.{◌+◌}
-use lib.ListN.{take}
-use borrow.Author.Rules.{rules}
+use Rattle.rules.specs.Numbering.{model_state, state_map}
+use Rattle.rules.specs.Sheets.{SM}
+use Rattle.rules.specs.Table.{from}
+use Rattle.machine.specs.Linked.{linked}
+use Rattle.finish.proofs.Sheet.{map_length}
 use Rattle.finish.proofs.put_state_map.Goals as goal
 
-pub put_map-requires : goal.put_map-requires
-unfolding lent
-put_map-requires c =
-    let whole = steps_complete (sound_steps c.requires.sound) in
-    let N = c.number-found.ensures in
-    record { numbers = c.requires.numbers; found_bound = (omega (arith, numbered_few whole N, c.requires.sound.n_high), N.size, numbered_kept whole N); n_in_bounds = search rules }
-
-pub returns : goal.returns
-unfolding lent
-returns c =
+pub returns-clause-sheet_after : goal.returns-clause-sheet_after
+unfolding state_map lent
+returns-clause-sheet_after c =
     let a = c.args in
-    let N = c.number-found.ensures in
-    let C = link a.m a.k a.model.now in record {
-      value = omega arith;
-      sheet_after = c.put_map.ensures ∙ ap (put (a.at + 2) (map (mapped a.k C
-          (take c.number-found.result c.number-found.new.order) (stored 48 c.number-found.new.reach c.number-found.result))
-          (from 0 a.n))) c.put_mark.ensures ∙ map_put a.k (link a.n a.k a.words.now) C a.at a.sheet.now N (search rules);
-    }
+    let M = linked a.machine.now in
+    let C = linked a.model.now.machine in
+    let k = a.machine.now.k in
+    c.put_map.ensures
+    ∙ ap (put (a.at + 2) (map (model_state k M C) (from 0 a.machine.now.n))) c.put_mark.ensures
+    ∙ put_put a.at SM (state_map k M C) a.sheet.now (omega (arith, map_length k M C, c.requires.room))

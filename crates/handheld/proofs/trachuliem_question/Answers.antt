@@ -3,4 +3,4 @@ use mathlib.Core.Path.{ap, ◌∙◌}
 use Rattle.handheld.proofs.trachuliem_question.Goals as goal
 
 pub returns : goal.returns
-returns c = c.output_of.ensures ∙ ap output_of c.question.ensures
+returns c = c.from.ensures ∙ ap output_of c.question.ensures

@@ -4,4 +4,4 @@ use mathlib.Core.Path.{ap, ◌∙◌}
 use Rattle.handheld.proofs.trachuliem_read_machine.Goals as goal
 
 pub returns : goal.returns
-returns c = let e = c.read.ensures in record { value = c.size_of.ensures ∙ ap (λ (l : Left Size). size_of l.answer) e; area_after = ap (λ (l : Left Size). l.area) e }
+returns c = let e = c.read.ensures in record { value = c.from.ensures ∙ ap (λ (l : Left Size). size_of l.answer) e; area_after = ap (λ (l : Left Size). l.area) e }

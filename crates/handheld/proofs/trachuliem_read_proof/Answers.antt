@@ -3,4 +3,4 @@ use mathlib.Core.Path.{ap, ◌∙◌}
 use Rattle.handheld.proofs.trachuliem_read_proof.Goals as goal
 
 pub returns : goal.returns
-returns c = c.counts_of.ensures ∙ ap counts_of c.read.ensures
+returns c = c.from.ensures ∙ ap counts_of c.read.ensures

@@ -1,58 +1,24 @@
-use borrow.Author.Tests.{le-leb, lt-leb}
+use Rattle.std.proofs.Common.{arith}
+use Rattle.std.proofs.lemmas.Grind.{common_steps}
 use Rattle.learning.specs.Learner as spec
-use mathlib.Core.Path.{sym, ◌∙◌}
 use Rattle.learning.proofs.learn_check.Goals as goal
 
-pub returns-then-not-within : goal.returns-then-not-within
+pub returns-then-not-within-clause-refusal : goal.returns-then-not-within-clause-refusal
 unfolding spec.learn_check
-returns-then-not-within c = simp (sym c.within.ensures ∙ c.if-not-within.true)
+returns-then-not-within-clause-refusal c = grind (arith, common_steps)
 
-pub returns-then-most-gt47 : goal.returns-then-most-gt47
+pub returns-in_err-machine-clause-refusal : goal.returns-in_err-machine-clause-refusal
 unfolding spec.learn_check
-returns-then-most-gt47 c = simp (sym c.within.ensures ∙ c.if-not-within.false, lt-leb _ _ c.if-most-gt47.true)
+returns-in_err-machine-clause-refusal c = grind (arith, common_steps)
 
-pub returns-in-Refused : goal.returns-in-Refused
+pub returns-then-table-lt34043-clause-refusal : goal.returns-then-table-lt34043-clause-refusal
 unfolding spec.learn_check
-returns-in-Refused c =
-    simp (
-      sym c.check-c.ensures,
-      c.in-Refused.is,
-      sym c.within.ensures ∙ c.if-not-within.false,
-      le-leb _ _
-          c.if-most-gt47.false,
-    )
+returns-then-table-lt34043-clause-refusal c = rw (← c.in_ok-machine.ensures.refusal) (grind (arith, common_steps))
 
-pub returns-then-table-lt34043 : goal.returns-then-table-lt34043
+pub returns-then-sheet-lt9368-clause-refusal : goal.returns-then-sheet-lt9368-clause-refusal
 unfolding spec.learn_check
-returns-then-table-lt34043 c =
-    simp (
-      sym c.check-c.ensures,
-      c.in_default.is,
-      sym c.within.ensures ∙ c.if-not-within.false,
-      le-leb _ _ c.if-most-gt47.false,
-      lt-leb _ _ c.if-table-lt34043.true,
-    )
+returns-then-sheet-lt9368-clause-refusal c = rw (← c.in_ok-machine.ensures.refusal) (grind (arith, common_steps))
 
-pub returns-then-sheet-lt9368 : goal.returns-then-sheet-lt9368
+pub returns-clause-refusal : goal.returns-clause-refusal
 unfolding spec.learn_check
-returns-then-sheet-lt9368 c =
-    simp (
-      sym c.check-c.ensures,
-      c.in_default.is,
-      sym c.within.ensures ∙ c.if-not-within.false,
-      le-leb _ _ c.if-most-gt47.false,
-      le-leb _ _ c.if-table-lt34043.false,
-      lt-leb _ _ c.if-sheet-lt9368.true,
-    )
-
-pub returns : goal.returns
-unfolding spec.learn_check
-returns c =
-    simp (
-      sym c.check-c.ensures,
-      c.in_default.is,
-      sym c.within.ensures ∙ c.if-not-within.false,
-      le-leb _ _ c.if-most-gt47.false,
-      le-leb _ _ c.if-table-lt34043.false,
-      le-leb _ _ c.if-sheet-lt9368.false,
-    )
+returns-clause-refusal c = rw (← c.in_ok-machine.ensures.refusal) (grind (arith, common_steps))

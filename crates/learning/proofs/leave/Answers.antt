@@ -1,46 +1,33 @@
-use mathlib.Core.List.{List}
+use Rattle.std.proofs.Common.{List, ℕ, refl, ap, ◌∙◌, arith}
 use Rattle.rules.specs.Answer.{refused}
 use Rattle.learning.specs.Leaving.{left_by}
-use Rattle.learning.proofs.Leaving.{leave_ten, leave_open, leave_done, leave_cells, leave_short}
-use native.Mathlib.Omega.{arith}
-use mathlib.Core.Path.{refl, ap, ◌∙◌}
-use Prim.Native.Nat.{ℕ}
+use Rattle.learning.proofs.Leaving.{leave_ten, leave_open, leave_done, leave_short, leave_long}
 use Rattle.learning.proofs.leave.Goals as goal
 
-pub returns-then-limit-m : goal.returns-then-limit-m
-returns-then-limit-m c =
+pub returns-then-limit-states : goal.returns-then-limit-states
+returns-then-limit-states c =
     let a = c.args in
-    ap (λ (t : List ℕ). left_by (refused 10) t a.sheet.now) c.zero.ensures ∙ leave_ten c.requires.turn a.limit
-    a.sheet.now c.if-limit-m.true
-
-pub overflow_mul-cells-2 : goal.overflow_mul-cells-2
-overflow_mul-cells-2 c =
-    let a = c.args in
-    omega (arith, leave_cells c.requires.turn a.limit a.sheet.now)
+    let L = a.desk.now.laid in
+    ap (λ (t : List ℕ). left_by (refused 10) t a.sheet.now) c.zero.ensures ∙ leave_ten L.sound L.narrow c.requires.turn a.limit a.sheet.now (omega arith)
 
 pub put_counterexample-requires : goal.put_counterexample-requires
 put_counterexample-requires c =
     let a = c.args in
-    let h = leave_short c.requires.turn a.limit a.sheet.now c.if-left-gt0.true in
-    (omega (arith, h, c.requires.in_bounds.0), h, c.requires.in_bounds.1)
+    let L = a.desk.now.laid in
+    let short = leave_short L.sound L.narrow c.requires.turn a.limit a.sheet.now c.in-Some.length c.in-Some.is in
+    let long = leave_long L.sound L.narrow c.requires.turn a.limit a.sheet.now c.in-Some.length c.in-Some.is in
+    (omega arith, c.requires.room)
 
-pub overflow_add-result : goal.overflow_add-result
-overflow_add-result c =
+pub returns-in-Some : goal.returns-in-Some
+returns-in-Some c =
     let a = c.args in
-    omega (arith, leave_short c.requires.turn a.limit a.sheet.now c.if-left-gt0.true)
-
-pub returns-then-left-gt0 : goal.returns-then-left-gt0
-returns-then-left-gt0 c =
-    let a = c.args in
-    leave_open c.requires.turn a.limit a.sheet.now c.if-limit-m.false c.if-left-gt0.true _ _ refl
-    c.put_counterexample.ensures
-
-pub finish-bytes-requires : goal.finish-bytes-requires
-finish-bytes-requires c =
-    let T = c.requires.turn in record { sound = T.desk.sound; steps = (T.modelled.steps, omega (arith, T.desk.few, T.desk.sound.n_high)); kept = (T.desk.columns_kept, T.desk.narrow, c.requires.in_bounds.1) }
+    let L = a.desk.now.laid in
+    rw (c.len-states.ensures, c.len.ensures)
+    (leave_open L.sound L.narrow c.requires.turn a.limit a.sheet.now c.in-Some.length c.in-Some.is (omega arith) _ _ refl c.put_counterexample.ensures)
 
 pub returns : goal.returns
 returns c =
     let a = c.args in
-    leave_done c.requires.turn a.limit a.sheet.now c.if-limit-m.false (omega (arith, c.if-left-gt0.false)) _ _
-    c.finish-bytes.ensures.value c.finish-bytes.ensures.sheet_after
+    let L = a.desk.now.laid in
+    let x = rw c.len-states.ensures at c.finish-bytes.ensures in
+    rw (c.len-states.ensures, c.len.ensures) (leave_done L.sound L.narrow c.requires.turn a.limit a.sheet.now (omega arith) c.in_default.is _ _ x.value x.sheet_after)

@@ -37,4 +37,4 @@ pub returns : goal.returns
 returns c =
     let a = c.args in
     let p = c.put_line.ensures in
-    (put_pair a.k a.i _ _ a.sheet.now c.byte.ensures.0 c.byte-2.ensures.0 p.0, p.1)
+    (put_pair a.k a.i _ _ a.sheet.now c.from.ensures c.from-2.ensures p.0, p.1)

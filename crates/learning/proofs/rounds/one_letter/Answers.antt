@@ -1,34 +1,21 @@
-use mathlib.Core.Path.{subst}
-use mathlib.Core.List.{List}
-use Rattle.learning.specs.Start.{Ones, ones_none, ones_more}
-use borrow.Author.Rules.{rules}
-use native.Mathlib.Omega.{arith}
-use mathlib.Core.Path.{◌≡◌, refl, sym}
-use Prim.Native.Nat.{ℕ, ◌+◌, ◌%◌}
+use Rattle.std.proofs.Common.{◌≡◌, ◌++◌, ◌∷◌, [], List, length, ap, ◌∙◌, rules, arith}
+use Rattle.rules.specs.Words.{Word}
+use Rattle.rules.specs.Table.{one_letter, from}
+use Rattle.rules.proofs.Links.{one_letter_length}
+use Rattle.learning.specs.Start.{one_letter_more}
 use Rattle.learning.proofs.rounds.one_letter.Goals as goal
 
 pub loop-a-init : goal.loop-a-init
-loop-a-init c = (search rules, refl, ones_none c.args.k c.args.columns.now)
+unfolding one_letter from
+loop-a-init c = c.requires.0
 
-pub store_word-requires : goal.store_word-requires
-store_word-requires c =
-    record { width_in_bounds = omega (arith, c.loop-a.invariant.1, c.requires.0); w_len_bound = (omega arith, omega arith) }
+pub push-requires : goal.push-requires
+push-requires c =
+    let l = c.loop-a in
+    let size : length l.columns ≡ l.a = ap length l.invariant ∙ one_letter_length l.a in
+    search (rules, arith)
 
 pub loop-a-preserved : goal.loop-a-preserved
 loop-a-preserved c =
-    let l = c.loop-a in (
-      search rules,
-      omega (arith, c.store_word.auto.store, l.invariant.1),
-      subst (λ (x : List ℕ). Ones c.args.k x (l.a + 1))
-          (sym c.store_word.ensures)
-          (ones_more l.invariant.2 (search rules) c.requires.0 (omega (arith, l.invariant.1, c.requires.1)) (l.a % 256) (omega (arith, c.requires.0))),
-    )
-
-pub shape_of-columns : goal.shape_of-columns
-shape_of-columns c = omega (arith, c.loop-a.invariant.1)
-
-pub returns : goal.returns
-returns c =
     let l = c.loop-a in
-    let e : l.a ≡ c.args.k = omega arith in
-    subst (λ (i : ℕ). Ones c.args.k l.columns i) e l.invariant.2
+    c.push.ensures ∙ ap (λ (E : List Word). E ++ ((l.a ∷ []) ∷ [])) l.invariant ∙ one_letter_more l.a

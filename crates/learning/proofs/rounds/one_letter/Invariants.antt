@@ -1,11 +1,7 @@
-use Rattle.learning.specs.Start.{Ones}
-use mathlib.Core.Path.{◌≡◌}
-use Prim.Native.Nat.{◌-◌, ◌≤◌}
-use lib.ListN.{length}
+use Rattle.std.proofs.Common.{◌≡◌}
+use Rattle.rules.specs.Table.{one_letter}
 use Rattle.learning.proofs.rounds.one_letter.Given as goal
 
+-- the letters before the turn's are there
 abbrev pub invariant-loop-a : goal.invariant-loop-a
-invariant-loop-a l = (l.a ≤ l.k) × (length l.columns ≡ length l.initial.columns) × Ones l.k l.columns l.a
-
-abbrev pub decreases-loop-a : goal.decreases-loop-a
-decreases-loop-a l = l.k - l.a
+invariant-loop-a l = l.columns ≡ one_letter l.a

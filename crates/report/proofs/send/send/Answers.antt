@@ -1,41 +1,42 @@
-use mathlib.Core.Path.{sym, ap}
-use Prim.Native.Nat.{◌*◌, ◌≤◌}
-use lib.Seq.{length-take-le}
-use native.Mathlib.Nat.{mul-le-mul}
+use Rattle.std.proofs.Common.{Ok, ◌*◌, ◌≤◌, refl, sym, rules, arith, length-take-le}
+use Rattle.std.proofs.lemmas.Grind.{common_steps}
 use Rattle.rules.specs.Areas.{zeros}
 use Rattle.learning.specs.Answers.{learnt}
-use Rattle.sheets.specs.MachineAnswers.{read_of}
-use Rattle.report.specs.Reading.{read_sized, small_done}
+use Rattle.report.specs.Reading.{small_done}
 use Rattle.report.specs.DeskLaws.{none_sent, learnt_sent, sent_short}
-use borrow.Author.Rules.{rules}
+use Rattle.report.proofs.Laws.{sized}
 use Rattle.report.proofs.send.send.Goals as goal
-use Rattle.report.proofs.send.send.Goals.{In-Read}
+use Rattle.report.proofs.send.send.Goals.{In_ok-n}
 
--- n and k are in their ranges
-sized : (c : In-Read) → c.in-Read.n * c.in-Read.k ≤ 576
+small : (c : In_ok-n) → c.in_ok-n.field-0.n * c.in_ok-n.field-0.k ≤ 576
 unfolding zeros
-sized c =
-    let z = read_sized _ _ _ c.read.ensures _ (ap read_of c.in-Read.is) in
-    mul-le-mul z.0 z.2
+small c = (sized _ _ _ c.in_ok-n.ensures).0
+
+pub returns-in_err-n-clause-area_after : goal.returns-in_err-n-clause-area_after
+unfolding zeros
+returns-in_err-n-clause-area_after c = rw (none_sent _ _ _ _ c.in_err-n.ensures _ refl) (grind (arith, common_steps))
 
 pub overflow_mul-size : goal.overflow_mul-size
-overflow_mul-size c = let z = sized c in search rules
+overflow_mul-size c = let z = small c in search rules
+
+pub returns-in_err-learnt-clause-area_after : goal.returns-in_err-learnt-clause-area_after
+unfolding zeros
+returns-in_err-learnt-clause-area_after c = rw (learnt_sent _ _ _ _ c.in_ok-n.ensures _ _ refl c.in_err-learnt.ensures) (grind (arith, common_steps))
 
 pub slice_bounds-words-end : goal.slice_bounds-words-end
-slice_bounds-words-end c = let z = sized c in search rules
+slice_bounds-words-end c = let z = small c in search rules
 
 pub slice_bounds-learn-end : goal.slice_bounds-learn-end
-slice_bounds-learn-end c = let z = sized (goal.at.slice_bounds-learn-end c).In-Read in sym (length-take-le _ _ (search rules))
+slice_bounds-learn-end c = let z = small (goal.at.slice_bounds-learn-end c).In_ok-n in sym (length-take-le _ _ (search rules))
 
-pub returns-in-Refused : goal.returns-in-Refused
+pub returns-in_default-clause-area_after : goal.returns-in_default-clause-area_after
 unfolding zeros
-returns-in-Refused c = record { area_after = sym (none_sent _ _ _ _ c.read.ensures _ (ap read_of c.in-Refused.is)); short = tt }
+returns-in_default-clause-area_after c = rw (learnt_sent _ _ _ _ c.in_ok-n.ensures _ _ refl c.in_ok-learnt.ensures, c.in_default.is) refl
 
-pub returns-in-Read : goal.returns-in-Read
+pub returns-clause-area_after : goal.returns-clause-area_after
 unfolding zeros
-returns-in-Read c =
-    let read = c.read.ensures in
-    let size = ap read_of c.in-Read.is in
-    let left = c.learn.ensures in
-    let short = sent_short (learnt c.learn.result) (small_done _ _ _ _ _ _ _ _ left) in
-    rw c.hand_on.ensures (record { area_after = sym (learnt_sent _ _ _ _ read _ _ size left); short = short })
+returns-clause-area_after c = rw (learnt_sent _ _ _ _ c.in_ok-n.ensures _ _ refl c.in_ok-learnt.ensures, c.in-Done.is) refl
+
+pub returns-clause-short : goal.returns-clause-short
+unfolding zeros
+returns-clause-short c = rw c.in-Done.is at (sent_short (learnt (Ok c.in_ok-learnt.learnt)) (small_done _ _ _ _ _ _ _ _ c.in_ok-learnt.ensures))

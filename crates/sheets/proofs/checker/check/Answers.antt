@@ -1,23 +1,23 @@
+use Rattle.std.proofs.Common.{sym, arith}
+use Rattle.std.proofs.lemmas.Grind.{common_steps}
+use Rattle.machine.specs.Lent.{link}
 use Rattle.sheets.specs.Checker as checker
-use Rattle.rules.specs.Answer.{gives}
-use Rattle.machine.specs.Answers.{checked}
-use Rattle.machine.specs.Lent.{lent_check}
-use Rattle.machine.specs.LentLaws.{lent_sound}
-use mathlib.Core.Path.{◌≡◌, sym, ap, ◌∙◌}
+use Rattle.sheets.proofs.CheckerSteps.{judge_refused}
 use Rattle.sheets.proofs.checker.check.Goals as goal
-use Rattle.sheets.proofs.checker.check.Goals.{In_default}
 
--- the machine came out sound
-sound : (c : In_default) → let a = c.args in lent_check a.n a.k a.words.now ≡ gives tt
-sound c = sym c.check-c.ensures ∙ ap checked c.in_default.is
-
-pub returns-in-Refused : goal.returns-in-Refused
+pub returns-in_err-machine : goal.returns-in_err-machine
 unfolding checker.check
-returns-in-Refused c = simp (sym c.check-c.ensures, c.in-Refused.is)
+returns-in_err-machine c = rw (← c.in_err-machine.ensures.refusal) (grind (arith, common_steps))
 
-pub judge-requires : goal.judge-requires
-judge-requires c = record { sound = lent_sound _ _ _ (sound (goal.at.judge-requires c).In_default); p_value = c.read.ensures }
+pub returns-in_err-counts : goal.returns-in_err-counts
+unfolding checker.check
+returns-in_err-counts c =
+    let a = c.args in
+    let h = judge_refused a.n a.k (link a.n a.k a.words.now) a.sheet.now _ (sym c.in_err-counts.ensures) in
+    rw (← c.in_ok-machine.ensures.refusal) (grind (arith, common_steps))
 
 pub returns : goal.returns
 unfolding checker.check
-returns c = rw (sound (goal.at.returns c).In_default) c.judge.ensures
+returns c =
+    let m = c.in_ok-machine.ensures.machine in
+    rw (← c.in_ok-machine.ensures.refusal) (rw (m.0, m.1, m.2) at c.judge.ensures)

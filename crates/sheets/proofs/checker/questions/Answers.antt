@@ -1,89 +1,82 @@
-use mathlib.Core.Bool.{true}
-use Rattle.sheets.specs.Held.{said, columns_at, map_is}
-use Rattle.sheets.specs.CheckerSteps.{mapped}
-use Rattle.sheets.proofs.CheckerSteps.{reaches_alone, apart_alone, mapping, map_same, judge_same}
+use Rattle.std.proofs.Common.{◌≡◌, ℕ, List, refl, sym, ap, ◌∙◌}
+use Rattle.std.specs.Prelude.{Bool}
+use Rattle.rules.specs.Answer.{gives}
+use Rattle.machine.specs.declared.lent.Lent.{Lent}
+use Rattle.machine.specs.Linked.{linked}
+use Rattle.sheets.specs.declared.checker.Sheet.{Sheet}
+use Rattle.sheets.specs.Proofs.{read_proof}
+use Rattle.sheets.specs.ProofParts.{counts}
 use Rattle.sheets.specs.Checker.{reaches_all, all_apart, map_holds}
-use Rattle.machine.specs.Lent.{link}
-use mathlib.Core.List.{List}
-use borrow.Author.Tests.{not-true, not-false}
-use mathlib.Core.Path.{◌≡◌, refl, sym, ap, ◌∙◌}
-use Prim.Native.Nat.{ℕ}
+use Rattle.sheets.specs.CheckerSteps.{mapped}
+use Rattle.sheets.specs.Held.{Held, said, map_is, read_letters, read_as}
+use Rattle.sheets.proofs.CheckerSteps.{reaches_alone, apart_alone, mapping, map_same, judge_same}
 use Rattle.sheets.proofs.checker.questions.Goals as goal
-use Rattle.sheets.proofs.checker.questions.Goals.{After-all_apart, After-map_holds, After-reaches_all, Else-not-all_apart, Else-not-reaches_all}
 
--- 12 comes out as it does for the machine
-reached : (c : After-reaches_all) → let a = c.args in
-    reaches_all (link a.n a.k a.words.now) (said a.sheet.now) ≡ c.reaches_all.result
-reached c = reaches_alone _ _ _ ∙ sym c.reaches_all.ensures
+-- the sheet's letters and states are the machine's
+module _ (m : Lent) (s : Sheet) (same : (s.counts.n ≡ m.n) × (s.counts.k ≡ m.k)) where
+  letters : s.model.k ≡ m.k
+  letters = sym (read_letters s.held _ s.read) ∙ same.1
 
-all-reached : (c : Else-not-reaches_all) → let a = c.args in
-    reaches_all (link a.n a.k a.words.now) (said a.sheet.now) ≡ true
-all-reached c = (let h-reached : let a = c.args in
-    reaches_all (link a.n a.k a.words.now) (said a.sheet.now) ≡ c.reaches_all.result = reaches_alone _ _ _ ∙ sym c.reaches_all.ensures in h-reached) ∙ not-false c.reaches_all.result c.if-not-reaches_all.false-raw
+  held : Held s.bytes.now s.model.words.now s.model.n m.k
+  held = rw letters at s.held
 
--- and 13
-apart : (c : After-all_apart) → let a = c.args in
-    all_apart (link a.n a.k a.words.now) (said a.sheet.now) ≡ c.all_apart.result
-apart c = apart_alone _ _ _ ∙ sym c.all_apart.ensures
+  read : read_proof s.bytes.now ≡ gives (counts s.model.n m.k m.n s.counts.c)
+  read = rw (letters, same.0) at (read_as s.held _ s.read)
 
-all_told : (c : Else-not-all_apart) → let a = c.args in
-    all_apart (link a.n a.k a.words.now) (said a.sheet.now) ≡ true
-all_told c = (let h-apart : let a = c.args in
-    all_apart (link a.n a.k a.words.now) (said a.sheet.now) ≡ c.all_apart.result = apart_alone _ _ _ ∙ sym c.all_apart.ensures in h-apart) ∙ not-false c.all_apart.result c.if-not-all_apart.false-raw
+  -- 12 and 13 come out for the machine as they do for the model
+  reached : (t : Bool) → t ≡ reaches_all (linked s.model) (said s.bytes.now) → reaches_all (linked m) (said s.bytes.now) ≡ t
+  reached t e = reaches_alone _ _ _ ∙ sym e
 
--- and 14, for the map as it lies in the sheet
-holds : (c : After-map_holds) → let a = c.args in
-    map_holds (link a.n a.k a.words.now) (said a.sheet.now) ≡ c.map_holds.result
-holds c =
-    let a = c.args in
-    let p = c.requires in
-    let M = link a.n a.k a.words.now in
-    let there = (map_is p.held p.sheet_value).1 in
-    map_same p.held p.sheet_value M ∙ sym (c.map_holds.ensures
-    ∙ ap (λ (map : List ℕ). map_holds M (mapped a.n a.k a.m a.model.now map)) there)
+  apart : (t : Bool) → t ≡ all_apart (linked s.model) (said s.bytes.now) → all_apart (linked m) (said s.bytes.now) ≡ t
+  apart t e = apart_alone _ _ _ ∙ sym e
 
 pub returns-then-not-reaches_all : goal.returns-then-not-reaches_all
-returns-then-not-reaches_all c = let p = c.requires in
-    sym (judge_same p.held p.sheet_value _ ∙ rw (reached (goal.at.returns-then-not-reaches_all c).After-reaches_all ∙ not-true c.reaches_all.result c.if-not-reaches_all.true-raw) refl)
-
-pub record_place-at-requires : goal.record_place-at-requires
-record_place-at-requires c = let p = c.requires in (columns_at p.held p.sheet_value).0
-
-pub all_apart-requires : goal.all_apart-requires
-all_apart-requires c = let p = c.requires in
-    record { held = p.held; columns = rw c.record_place-at.ensures (columns_at p.held p.sheet_value).1 }
+returns-then-not-reaches_all c =
+    let m = c.args.machine.now in
+    let s = c.args.sheet.now in
+    let p = c.requires.same in
+    sym (judge_same (held m s p) (read m s p) (linked m) ∙ rw (reached m s p _ c.reaches_all.ensures, c.if-not-reaches_all.true) refl)
 
 pub returns-then-not-all_apart : goal.returns-then-not-all_apart
-returns-then-not-all_apart c = let p = c.requires in
-    sym (judge_same p.held p.sheet_value _ ∙ rw (
-      all-reached (goal.at.returns-then-not-all_apart c).Else-not-reaches_all,
-      apart (goal.at.returns-then-not-all_apart c).After-all_apart
-          ∙ not-true c.all_apart.result c.if-not-all_apart.true-raw,
-    ) refl)
+returns-then-not-all_apart c =
+    let m = c.args.machine.now in
+    let s = c.args.sheet.now in
+    let p = c.requires.same in
+    sym (judge_same (held m s p) (read m s p) (linked m)
+    ∙ rw (reached m s p _ c.reaches_all.ensures, c.if-not-reaches_all.false, apart m s p _ c.all_apart.ensures, c.if-not-all_apart.true) refl)
 
-pub overflow_sub-map : goal.overflow_sub-map
-overflow_sub-map c = let p = c.requires in (map_is p.held p.sheet_value).0
+pub overflow_sub-mapped : goal.overflow_sub-mapped
+overflow_sub-mapped c =
+    let m = c.args.machine.now in
+    let s = c.args.sheet.now in
+    let p = c.requires.same in
+    (map_is (held m s p) (read m s p)).0
 
-pub map_holds-requires : goal.map_holds-requires
-map_holds-requires c = let p = c.requires in
-    rw (map_is p.held p.sheet_value).1 (mapping p.held p.sheet_value p.sound)
+pub invariant_of-mapped : goal.invariant_of-mapped
+invariant_of-mapped c =
+    let m = c.args.machine.now in
+    let s = c.args.sheet.now in
+    let p = c.requires.same in
+    record { mapping = rw (map_is (held m s p) (read m s p)).1 (mapping (held m s p) (read m s p) c.requires.sound); letters = letters m s p }
 
-pub returns-then-map_holds : goal.returns-then-map_holds
-returns-then-map_holds c = let p = c.requires in
-    sym (judge_same p.held p.sheet_value _
-    ∙ rw (
-      all-reached (goal.at.returns-then-map_holds c).Else-not-reaches_all,
-      all_told (goal.at.returns-then-map_holds c).Else-not-all_apart,
-      holds (goal.at.returns-then-map_holds c).After-map_holds
-          ∙ c.if-map_holds.true,
-    ) refl)
+pub returns-then-not-holds : goal.returns-then-not-holds
+returns-then-not-holds c =
+    let m = c.args.machine.now in
+    let s = c.args.sheet.now in
+    let p = c.requires.same in
+    let there = (map_is (held m s p) (read m s p)).1 in
+    let holds = map_same (held m s p) (read m s p) (linked m)
+    ∙ sym (c.holds.ensures ∙ ap (λ (map : List ℕ). map_holds (linked m) (mapped m.n m.k s.model.n s.model.words.now map)) there) in
+    sym (judge_same (held m s p) (read m s p) (linked m)
+    ∙ rw (reached m s p _ c.reaches_all.ensures, c.if-not-reaches_all.false, apart m s p _ c.all_apart.ensures, c.if-not-all_apart.false, holds, c.if-not-holds.true) refl)
 
-pub returns-else-map_holds : goal.returns-else-map_holds
-returns-else-map_holds c = let p = c.requires in
-    sym (judge_same p.held p.sheet_value _
-    ∙ rw (
-      all-reached (goal.at.returns-else-map_holds c).Else-not-reaches_all,
-      all_told (goal.at.returns-else-map_holds c).Else-not-all_apart,
-      holds (goal.at.returns-else-map_holds c).After-map_holds
-          ∙ c.if-map_holds.false,
-    ) refl)
+pub returns : goal.returns
+returns c =
+    let m = c.args.machine.now in
+    let s = c.args.sheet.now in
+    let p = c.requires.same in
+    let there = (map_is (held m s p) (read m s p)).1 in
+    let holds = map_same (held m s p) (read m s p) (linked m)
+    ∙ sym (c.holds.ensures ∙ ap (λ (map : List ℕ). map_holds (linked m) (mapped m.n m.k s.model.n s.model.words.now map)) there) in
+    sym (judge_same (held m s p) (read m s p) (linked m)
+    ∙ rw (reached m s p _ c.reaches_all.ensures, c.if-not-reaches_all.false, apart m s p _ c.all_apart.ensures, c.if-not-all_apart.false, holds, c.if-not-holds.false) refl)

@@ -1,45 +1,44 @@
-use Rattle.rules.specs.Answer.{gives}
-use Rattle.machine.specs.Answers.{checked}
-use Rattle.sheets.specs.Steps.{outcome}
-use Rattle.sheets.specs.Machines.{machine_sheet}
-use Rattle.sheets.specs.MachineSteps.{sheet_sized, read_refused, read_small, read_done}
-use native.Mathlib.Omega.{arith}
-use mathlib.Core.Path.{◌≡◌, sym, ap, ◌∙◌}
-use borrow.Author.Rules.{rules}
+use Rattle.std.proofs.Common.{length-drop, sym, ap, arith}
+use Rattle.std.proofs.lemmas.Grind.{common_steps}
+use Rattle.sheets.specs.Machines.{Size}
+use Rattle.sheets.specs.Rests.{from_on}
+use Rattle.sheets.specs.MachineSteps.{sized_refused, sized_sound, sheet_sized, read_refused, read_small, read_done}
 use Rattle.sheets.proofs.machines.read.Goals as goal
-use Rattle.sheets.proofs.machines.read.Goals.{In_default}
 
--- the sheet came out good
-sound : (c : In_default) → outcome (machine_sheet c.args.bytes.now) ≡ gives tt
-sound c = sym c.sheet_check-c.ensures ∙ ap checked c.in_default.is
-
-pub returns-in-Refused : goal.returns-in-Refused
-returns-in-Refused c =
+pub returns-in_err-n : goal.returns-in_err-n
+returns-in_err-n c =
     let a = c.args in
-    sym (read_refused a.bytes.now a.area.now _ (sym c.sheet_check-c.ensures ∙ ap checked c.in-Refused.is))
+    let h = read_refused a.bytes.now a.area.now _ (sized_refused a.bytes.now _ (sym c.in_err-n.ensures)) in
+    grind (arith, common_steps)
 
 pub returns-then-area-lt576 : goal.returns-then-area-lt576
 returns-then-area-lt576 c =
     let a = c.args in
-    sym (read_small a.bytes.now a.area.now (sound (goal.at.returns-then-area-lt576 c).In_default) (omega arith))
+    sym (read_small a.bytes.now a.area.now (sized_sound a.bytes.now _ (sym c.in_ok-n.ensures)).0 c.if-area-lt576.true)
 
-pub bounds-bytes-2 : goal.bounds-bytes-2
-bounds-bytes-2 c =
-    let s = sheet_sized c.args.bytes.now (sound (goal.at.bounds-bytes-2 c).In_default) in
-    search rules
+pub slice_bounds-set_rows-count : goal.slice_bounds-set_rows-count
+slice_bounds-set_rows-count c =
+    let b = c.args.bytes.now in
+    omega (arith, (sheet_sized b (sized_sound b _ (sym c.in_ok-n.ensures)).0).0)
 
-pub bounds-bytes-3 : goal.bounds-bytes-3
-bounds-bytes-3 c =
-    let s = sheet_sized c.args.bytes.now (sound (goal.at.bounds-bytes-3 c).In_default) in
-    search rules
+pub slice_bounds-set_rows-start : goal.slice_bounds-set_rows-start
+slice_bounds-set_rows-start c =
+    let b = c.args.bytes.now in
+    omega (arith, (sheet_sized b (sized_sound b _ (sym c.in_ok-n.ensures)).0).0)
 
 pub set_rows-requires : goal.set_rows-requires
 set_rows-requires c =
-    let s = sheet_sized c.args.bytes.now (sound (goal.at.set_rows-requires c).In_default) in
-    rw (c.wide-k.ensures, c.wide-n.ensures) (record { k_in_bounds = omega arith; k_in_bounds_2 = omega arith })
+    let b = c.args.bytes.now in
+    let h = sized_sound b _ (sym c.in_ok-n.ensures) in
+    let s = sheet_sized b h.0 in
+    let n = ap (λ (s : Size). s.n) h.1 in
+    let k = ap (λ (s : Size). s.k) h.1 in
+    rw (n, k, from_on 4 b) (record { k_in_bounds = omega arith; k_in_bounds_2 = omega (arith, length-drop 4 b) })
 
 pub returns : goal.returns
 returns c =
     let a = c.args in
-    rw (c.set_rows.ensures, c.wide-k.ensures, c.wide-n.ensures)
-    (sym (read_done a.bytes.now a.area.now (sound (goal.at.returns c).In_default) (omega arith)))
+    let h = sized_sound a.bytes.now _ (sym c.in_ok-n.ensures) in
+    let n = ap (λ (s : Size). s.n) h.1 in
+    let k = ap (λ (s : Size). s.k) h.1 in
+    rw (c.set_rows.ensures, n, k, from_on 4 a.bytes.now) (sym (read_done a.bytes.now a.area.now h.0 (omega arith)))

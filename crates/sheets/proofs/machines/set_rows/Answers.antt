@@ -1,60 +1,18 @@
-use native.Mathlib.Nat.{suc-mul, zero-mul}
+use Rattle.std.proofs.Common.{◌≡◌, ◌+◌, ◌*◌, sym, ◌∙◌, arith}
 use Rattle.rules.specs.Areas.{put_none}
 use Rattle.rules.specs.SheetLaws.{room}
+use Rattle.sheets.specs.Rests.{from_on}
 use Rattle.sheets.specs.Standing.{row_words, set_rows_more}
-use borrow.Author.Rules.{rules}
-use native.Mathlib.Omega.{arith}
-use mathlib.Core.Path.{◌≡◌, refl, sym, ◌∙◌}
-use Prim.Native.Nat.{◌+◌, ◌*◌, ◌≤◌}
-use lib.ListN.{length}
 use Rattle.sheets.proofs.machines.set_rows.Goals as goal
-use Rattle.sheets.proofs.machines.set_rows.Goals.{After-set_pairs-arg-1}
-
--- a row that is due has its bytes and its room
-known : (c : After-set_pairs-arg-1) → let a = c.args in let l = c.loop-row in (l.row * a.k + a.k ≤ length a.area.now) × (a.at + l.row * (2 + 2 * a.k) + (2 + 2 * a.k) ≤ length a.bytes.now)
-known c =
-    let a = c.args in
-    let l = c.loop-row in (
-      omega (arith, room l.row a.rows a.k c.loop-row-test.true),
-      omega
-          (arith, room l.row a.rows (2 + 2 * a.k) c.loop-row-test.true),
-    )
 
 pub loop-row-init : goal.loop-row-init
 unfolding row_words
-loop-row-init c =
-    let a = c.args in
-    (search rules, omega (arith, zero-mul (2 + 2 * a.k)), sym (zero-mul a.k), refl, sym (put_none 0 a.area.now))
-
-pub overflow_add-place : goal.overflow_add-place
-overflow_add-place c = let k = known c in search rules
-
-pub set_pairs-requires : goal.set_pairs-requires
-set_pairs-requires c = let k = known c in search rules
-
-pub overflow_mul-place : goal.overflow_mul-place
-overflow_mul-place c = let k = known (goal.at.overflow_mul-place c).After-set_pairs-arg-1 in search rules
-
-pub overflow_add-place-in-loop-row : goal.overflow_add-place-in-loop-row
-overflow_add-place-in-loop-row c = let k = known (goal.at.overflow_add-place-in-loop-row c).After-set_pairs-arg-1 in search rules
-
-pub overflow_add-place-in-loop-row-2 : goal.overflow_add-place-in-loop-row-2
-overflow_add-place-in-loop-row-2 c = let k = known (goal.at.overflow_add-place-in-loop-row-2 c).After-set_pairs-arg-1 in search rules
-
-pub overflow_add-from : goal.overflow_add-from
-overflow_add-from c = let k = known (goal.at.overflow_add-from c).After-set_pairs-arg-1 in search rules
+loop-row-init c = sym (put_none 0 c.args.area.now)
 
 pub loop-row-preserved : goal.loop-row-preserved
 loop-row-preserved c =
     let a = c.args in
     let l = c.loop-row in
-    let k = known (goal.at.loop-row-preserved c).After-set_pairs-arg-1 in (
-      search rules,
-      omega (arith, suc-mul l.row (2 + 2 * a.k)),
-      omega (arith, suc-mul l.row a.k),
-      search rules,
-      c.set_pairs.ensures ∙ rw (l.invariant.1, l.invariant.2, l.invariant.4) (set_rows_more a.at a.k l.row a.bytes.now a.area.now k.0),
-    )
-
-pub returns : goal.returns
-returns c = let z : c.loop-row.row ≡ c.args.rows = omega arith in rw z at c.loop-row.invariant.4
+    let z : 0 + l.row * (2 + 2 * a.k) + 2 ≡ l.row * (2 + 2 * a.k) + 2 = omega arith in
+    c.set_pairs.ensures ∙ rw (from_on (l.row * (2 + 2 * a.k) + 2) a.rows.now, l.invariant)
+    (rw z at (set_rows_more 0 a.k l.row a.rows.now a.area.now (omega (arith, room l.row a.count a.k c.loop-row-test.true))))

@@ -1,52 +1,33 @@
+use Rattle.std.proofs.Common.{sym, ap, ◌∙◌, arith}
+use Rattle.std.proofs.lemmas.Grind.{common_steps}
 use Rattle.rules.specs.Answer.{gives}
-use Rattle.machine.specs.Answers.{checked}
-use Rattle.sheets.specs.ProofAnswers.{stepped}
-use Rattle.sheets.specs.ProofSteps.{counts_at, Headed, header_good, read_header, read_body, read_counts}
-use native.Mathlib.Omega.{arith}
-use mathlib.Core.Path.{◌≡◌, refl, sym, ap, ◌∙◌}
-use Rattle.sheets.specs.ProofParts.{counts}
+use Rattle.sheets.specs.ProofParts.{header}
+use Rattle.sheets.specs.ProofSteps.{header_given, read_header, read_body, read_counts}
+use Rattle.sheets.specs.Rests.{from_on}
+use Rattle.sheets.specs.WordSteps.{refused_given}
 use Rattle.sheets.proofs.proofs.read.Goals as goal
-use Rattle.sheets.proofs.proofs.read.Goals.{After-wide-c, In_default}
 
--- the header came out good
-headed : (c : In_default) → Headed c.args.bytes.now
-headed c =
-    header_good c.args.bytes.now
-    (sym c.header_check-head.ensures ∙ ap checked c.in_default.is)
+pub returns-in_err-counts : goal.returns-in_err-counts
+returns-in_err-counts c =
+    let b = c.args.bytes.now in
+    let refused = read_header b _ (refused_given (header b) _ (sym c.in_err-counts.ensures)) in
+    grind (arith, common_steps)
 
--- the numbers are those that stand there
-as-they-stand : (c : After-wide-c) → counts c.wide-m.result c.wide-k.result c.wide-n.result c.wide-c.result ≡ counts_at c.args.bytes.now
-as-they-stand c =
-    rw (c.wide-c.ensures, c.wide-n.ensures, c.wide-k.ensures, c.wide-m.ensures) refl
+pub slice_bounds-body-count : goal.slice_bounds-body-count
+slice_bounds-body-count c = (header_given c.args.bytes.now _ (sym c.in_ok-counts.ensures)).0.within
 
-pub returns-in-Refused : goal.returns-in-Refused
-returns-in-Refused c =
-    sym (read_header c.args.bytes.now _ (sym c.header_check-head.ensures ∙ ap checked c.in-Refused.is))
+pub slice_bounds-body-start : goal.slice_bounds-body-start
+slice_bounds-body-start c = (header_given c.args.bytes.now _ (sym c.in_ok-counts.ensures)).0.within
 
-pub bounds-bytes-2 : goal.bounds-bytes-2
-bounds-bytes-2 c = omega (arith, (headed (goal.at.bounds-bytes-2 c).In_default).within)
-
-pub bounds-bytes-3 : goal.bounds-bytes-3
-bounds-bytes-3 c = omega (arith, (headed (goal.at.bounds-bytes-3 c).In_default).within)
-
-pub bounds-bytes-4 : goal.bounds-bytes-4
-bounds-bytes-4 c = omega (arith, (headed (goal.at.bounds-bytes-4 c).In_default).within)
-
-pub bounds-bytes-5 : goal.bounds-bytes-5
-bounds-bytes-5 c = omega (arith, (headed (goal.at.bounds-bytes-5 c).In_default).within)
-
-pub body_check-rest-requires : goal.body_check-rest-requires
-body_check-rest-requires c =
-    let h = headed (goal.at.body_check-rest-requires c).In_default in
-    (h.within, omega (arith, c.wide-k.ensures, h.ranges.k_high))
-
-pub returns-in-Refused-rest : goal.returns-in-Refused-rest
-returns-in-Refused-rest c =
-    sym (read_body c.args.bytes.now (headed (goal.at.returns-in-Refused-rest c).In_default) _ (rw (as-they-stand (goal.at.returns-in-Refused-rest c).After-wide-c) at
-    (sym c.body_check-rest.ensures ∙ ap stepped c.in-Refused-rest.is)))
+pub returns-in_err-body : goal.returns-in_err-body
+returns-in_err-body c =
+    let b = c.args.bytes.now in
+    let g = header_given b _ (sym c.in_ok-counts.ensures) in
+    let refused = read_body b g.0 _ (rw (g.1, from_on 6 b) at (sym c.in_err-body.ensures)) in
+    grind (arith, common_steps)
 
 pub returns : goal.returns
 returns c =
-    let e = as-they-stand (goal.at.returns c).After-wide-c in
-    ap gives e ∙ sym (read_counts c.args.bytes.now (headed (goal.at.returns c).In_default) _
-    (rw e at (sym c.body_check-rest.ensures ∙ ap stepped c.in_default-rest.is)))
+    let b = c.args.bytes.now in
+    let g = header_given b _ (sym c.in_ok-counts.ensures) in
+    ap gives g.1 ∙ sym (read_counts b g.0 (rw (g.1, from_on 6 b) at (sym c.in_ok-body.ensures)))

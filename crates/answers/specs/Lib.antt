@@ -1,2 +1,0 @@
--- What the proofs of this program cite.
-pub mod Parts
