@@ -25,20 +25,22 @@ fn open(rt: &HostRuntime, i: usize) -> Option<File> {
             }
         }
     }
+    // In three pieces: the name may be no text.
     io::write_all(2, b"accept: cannot read ");
     io::write_all(2, &name[..size]);
     io::write_all(2, b"\n");
     None
 }
 
-// Whether there is an argument at that place. `why` has the same two lines: no clause says what an argument is, so that a function for both
-// programs would promise nothing.
+// Whether there is an argument at that place. `why` has the same two lines: a public function for both would have to have a clause and an edit
+// that it refuses, and no clause can say what an argument is.
 fn given(rt: &HostRuntime, i: usize) -> bool {
     let mut name = [0u8; 1];
     !matches!(rt.arg(i, &mut name), Err(FillError::NotPresent))
 }
 
-// Of each sheet one byte more than the longest has, so that a longer one is seen.
+// Of each sheet one byte more than the longest has, so that a longer one is seen. Nothing is on the heap: an array has the room, and what was
+// read is a part of it.
 fn main(rt: HostRuntime) {
     if !given(&rt, 2) || given(&rt, 3) {
         let _ = writeln!(Stream(2), "usage: accept MACHINE-SHEET PROOF-SHEET");

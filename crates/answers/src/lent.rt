@@ -1,4 +1,4 @@
-// Areas full of noise, and words as bytes: two by two, low first.
+// Areas full of noise, and words as bytes: two by two, low first. Nothing is on the heap: an array has room for the most, and a part is used.
 ghost use Rattle.std.specs.Prelude.{◌*◌, ◌<◌, ◌≤◌, length};
 
 use crate::{Stop, write};
@@ -10,17 +10,17 @@ pub(crate) fn number(bytes: [u8; 2]) -> usize
     usize::from(u16::from_le_bytes(bytes))
 }
 
-// The lowest two bytes of a number.
+// The lowest two bytes of a number: `as` of a remainder that fits, since no `From` makes a number narrower.
 pub(crate) fn low_high(x: usize) -> [u8; 2] {
     ((x % 65536) as u16).to_le_bytes()
 }
 
-// Byte i of an area before the call: (7·i + 13·area + seed) mod 256.
+// Byte i of an area before the call: (7·i + 13·area + seed) mod 256, which fits a byte.
 fn noise(i: usize, area: u8, seed: u8) -> u8 {
     ((7 * (i % 256) + 13 * usize::from(area) + usize::from(seed)) % 256) as u8
 }
 
-// Fills an area of bytes.
+// Fills an area of bytes. By index: what is written through `iter_mut` with an adapter is not known afterwards.
 pub(crate) fn fill(bytes: &mut [u8], area: u8, seed: u8) {
     for i in 0..bytes.len() {
         bytes[i] = noise(i, area, seed);

@@ -84,7 +84,8 @@ impl TryFrom<u8> for Operation {
     }
 }
 
-// The head of a case: all that comes before its inputs.
+// The head of a case: all that comes before its inputs. The operation stays the byte that was read: one that is none is told only when the
+// inputs are read too, as before.
 #[derive(Clone, Copy)]
 struct Case {
     operation: u8,
@@ -122,7 +123,7 @@ fn write(bytes: &[u8]) -> Result<(), Stop> {
     }
 }
 
-// Writes an answer: its kind and its four numbers.
+// Writes an answer: its kind, the byte that the head of this file has for it, and its four numbers.
 fn say(kind: u8, numbers: [usize; 4]) -> Result<(), Stop> {
     let mut answer = [kind; 9];
     for (i, x) in numbers.iter().enumerate() {
@@ -270,6 +271,7 @@ fn answer_words(
         Operation::Learn => learn(case, words),
         Operation::Check => check(case, words, second),
         Operation::Why => why(case, words),
+        // The three that lend no machine: `answer` has them.
         _ => Err(Stop::Operation),
     }
 }

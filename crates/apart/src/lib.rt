@@ -36,7 +36,8 @@ fn name(machine: &Lent, s: usize, t: usize, w: &[u8], area: &mut [u8]) -> Told
     }
 }
 
-// The word is found in an array with room for any that two machines of 48 states give; of one machine it has at most 47 letters.
+// The word is found in an array with room for any that two machines of 48 states give, since nothing is on the heap; of one machine it has at
+// most 47 letters. `Beside` is a clause, as `search` has it.
 fn tell(machine: &Lent, s: usize, t: usize, area: &mut [u8]) -> Option<Told>
     requires beside { Beside machine.now machine.now }
     requires there { (s < machine.now.n) × (t < machine.now.n) × (47 ≤ length area.old) }

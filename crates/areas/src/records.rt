@@ -19,8 +19,9 @@ fn put_pair(area: &mut [u8], at: usize, word: u16)
     requires { at + 2 ≤ length area.old }
     ensures { area.new ≡ put at (pair word) area.old }
 {
-    area[at] = (word % 256) as u8;
-    area[at + 1] = (word / 256) as u8;
+    let [output, next] = word.to_le_bytes();
+    area[at] = output;
+    area[at + 1] = next;
 }
 
 // The pairs of the words, one after the other.

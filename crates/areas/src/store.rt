@@ -1,5 +1,5 @@
 // Words kept one after the other in slots: slot j has WIDTH places, first the word's length and then its letters. In a contract a store is
-// the list of its words.
+// the list of its words. Area and place stay two parameters, as `records` says.
 ghost use Rattle.std.specs.Prelude.{◌≡◌, List, [], ◌∷◌, ◌++◌, ℕ, ◌+◌, ◌*◌, ◌<◌, ◌≤◌, length, get_or};
 ghost use Rattle.rules.specs.Areas.{put};
 ghost use Rattle.areas.specs.Store.{slot, stored, Slots};
@@ -27,7 +27,7 @@ fn slot(store: &[u8], width: usize, j: usize) -> &[u8]
     &store[from..end]
 }
 
-// The word `w` is put into slot `j`. It asks for that slot alone.
+// The word `w` is put into slot `j`. It asks for that slot alone. The length fits a byte, by its clause; no `From` makes a number narrower.
 pub fn store_word(store: &mut [u8], width: usize, j: usize, w: &[u8])
     requires width_in_bounds { j * width + width ≤ length store.old }
     requires w_len_bound { (length w.now < width) × (width ≤ 256) }

@@ -26,6 +26,7 @@ fn put_record(sheet: &mut [u8], at: usize, mark: &[u8; 2], w: &[u8]) -> usize
     ensures sheet_after { sheet.new ≡ put at (word_bytes (mark_of mark.now) w.now) sheet.old }
 {
     records::put_mark(sheet, at, mark);
+    // The length fits a byte, by its clause; no `From` makes a number narrower.
     sheet[at + 2] = w.len() as u8;
     store::put_letters(sheet, at + 3, w);
     at + 3 + w.len()
@@ -69,7 +70,7 @@ fn put_state_map(sheet: &mut [u8], at: usize, machine: &Lent, model: &Numbered) 
     at + 2 + machine.n
 }
 
-// The head: PH, m, k, n and c, each under its name.
+// The head: PH, m, k, n and c, each under its name. Each fits a byte, by the clause `low`; no `From` makes a number narrower.
 fn put_head(sheet: &mut [u8], m: usize, k: usize, n: usize, c: usize)
     requires low { (m < 256) × (k < 256) × (n < 256) × (c < 256) }
     requires room { 6 ≤ length sheet.old }

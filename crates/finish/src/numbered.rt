@@ -1,4 +1,6 @@
-// A lent machine with the numbering of its states by least words: the rows of the model numbered so, and the map to it.
+// A lent machine with the numbering of its states by least words: the rows of the model numbered so, and the map to it. Nothing is on the
+// heap: an array has room for the most rows, and a part is used; an area is written by index, since what goes through `iter_mut` with an
+// adapter is not known afterwards.
 ghost use Rattle.std.specs.Prelude.{◌≡◌, ◌+◌, ◌*◌, ◌<◌, ◌≤◌, length, map};
 ghost use Rattle.rules.specs.Areas.{put};
 ghost use Rattle.rules.specs.Table.{from};
@@ -69,6 +71,7 @@ impl<'a> Numbered<'a> {
         match other.numbering.place(state) {
             Some(place) => {
                 let reached = self.machine.state_after(other.numbering.word(place));
+                // Below 48, by the clause `low`.
                 self.place(reached) as u8
             }
             None => 255,

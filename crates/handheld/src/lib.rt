@@ -291,6 +291,8 @@ pub extern "C" fn trachuliem_read_proof(sheet: &[u8]) -> Counts
 pub extern "C" fn trachuliem_aw_record(sheet: &[u8], state: usize) -> Part
     ensures { (result.place ≡ aw_place sheet.now state) × (result.length ≡ length (aw_record sheet.now state)) }
 {
+    // The first record's place is written out here: `Counts::reaching`, which has it, is of its crate alone, and a public one would be a
+    // function more for this one line.
     let length = proofs::aw_record(sheet, state).len();
     let place = match proofs::read(sheet) {
         Ok(proofs::Counts { m, k, .. }) if state < m => {

@@ -3,7 +3,7 @@
 #![tactic(auto)]
 
 fn main() {
-    // One byte past the longest sheet, so that a longer one is seen.
+    // One byte past the longest sheet, so that a longer one is seen. Nothing is on the heap: what was read is a part of an array.
     let mut bytes = [0u8; 1253];
     let size = io::read_full(0, &mut bytes);
     let mut text = areas::zeros::<16384>();

@@ -1,4 +1,5 @@
-// Rules 3 and 4: closing, and the conjecture as lent words.
+// Rules 3 and 4: closing, and the conjecture as lent words. Nothing is on the heap: a word in an array has its length beside it. The model is
+// written by index: what goes through `iter_mut` with an adapter is not known afterwards.
 ghost use Rattle.std.specs.Prelude.{◌≡◌, ◌++◌, ◌∷◌, [], ◌+◌, ◌*◌, ◌<◌, ◌≤◌, length};
 ghost use Rattle.rules.specs.Areas.{put};
 ghost use Rattle.rules.specs.Sheets.{words_of};

@@ -76,7 +76,8 @@ fn learn_check<'a>(
     Ok(machine)
 }
 
-// Open's record: CX, the length and the letters of the counterexample.
+// Open's record: CX, the length and the letters of the counterexample. The length fits a byte, by the first clause; no `From` makes a number
+// narrower.
 fn put_counterexample(sheet: &mut [u8], w: &[u8])
     requires { (length w.now ≤ 94) × (9368 ≤ length sheet.old) }
     ensures { sheet.new ≡ over (word_bytes CX w.now) sheet.old }
@@ -87,7 +88,8 @@ fn put_counterexample(sheet: &mut [u8], w: &[u8])
 }
 
 // What is left where the rounds stopped: 10 if there are more words than the limit, the counterexample if one is left, and else the proof
-// sheet. The areas stay apart, as the operation is lent them.
+// sheet. Seven parameters: no struct may hold the areas that are written and keep a fact of them, and conjecture and counterexample lie in
+// arrays of `learn`, since nothing is on the heap.
 fn leave(
     desk: &Desk,
     limit: usize,

@@ -15,14 +15,14 @@ use areas::store::Store;
 use machine::Lent;
 
 // Where the rounds stop: the rounds past, and how many letters the counterexample has that is left. They stand at the start of `found`, which
-// each round lends again.
+// each round lends again. Nothing is on the heap, so that a word in an array has its length beside it.
 #[derive(Clone, Copy)]
 pub(crate) struct Stop {
     pub(crate) past: usize,
     pub(crate) left: Option<usize>,
 }
 
-// Rule 1: the columns are at first the one-letter words, in order.
+// Rule 1: the columns are at first the one-letter words, in order. A letter fits a byte, since k is at most 12.
 fn one_letter(columns: &mut Store<94, 5546>, k: usize)
     requires { (columns.old ≡ []) × (k ≤ 12) }
     ensures { columns.new ≡ one_letter k }

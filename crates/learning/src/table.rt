@@ -13,8 +13,8 @@ use areas::store::Store;
 use machine::Lent;
 
 // The machine that is learnt, the words of S with the row that each was taken from, and the columns. Fixed memory: a slot of a store has
-// letters alone, so that the rows stand beside the words. The table's area is lent beside it: a struct with a `&mut` could keep no fact in
-// a ghost field.
+// letters alone, so that the rows stand beside the words, and a word that is asked has its length beside its array. The table's area is
+// lent beside the desk: a struct with a `&mut` could keep no fact in a ghost field.
 #[derive(Drop)]
 pub(crate) struct Desk<'a> {
     pub(crate) machine: Lent<'a>,
@@ -49,6 +49,7 @@ impl<'a> Desk<'a> {
         }
         let k = self.machine.k;
         let end = self.s.copy_word((r - 1) / k, word, 0);
+        // A letter fits a byte: k is at most 12, by the desk's `laid`.
         word[end] = ((r - 1) % k) as u8;
         end + 1
     }

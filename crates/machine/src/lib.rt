@@ -28,6 +28,7 @@ pub fn next_of(word: u16) -> usize
 pub fn output_of(word: u16) -> u8
     ensures { result ≡ word % 256 }
 {
+    // A remainder that fits; no `From` makes a number narrower.
     (word % 256) as u8
 }
 
@@ -52,6 +53,7 @@ pub fn word(next: usize, output: u8) -> u16
     requires { next < 256 }
     ensures { result ≡ 256 * next + output }
 {
+    // It fits, by the clause; no `From` makes a number narrower.
     256 * (next as u16) + u16::from(output)
 }
 

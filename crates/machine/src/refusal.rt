@@ -27,6 +27,7 @@ impl From<Refusal> for u8 {
     ghost from_gives = { λ r x. x ≡ refusals.number r };
 
     fn from(r: Refusal) -> u8 {
+        // The numbers stand with the variants; no other form reads them.
         r as u8
     }
 }

@@ -7,7 +7,7 @@ use std::fmt::Write;
 use text::Stream;
 
 fn main() {
-    // One byte past the longest sheet, so that a longer one is seen.
+    // One byte past the longest sheet, so that a longer one is seen. Nothing is on the heap: what was read is a part of an array.
     let mut bytes = [0u8; 1253];
     let size = io::read_full(0, &mut bytes);
     let mut sheet = areas::zeros::<9368>();

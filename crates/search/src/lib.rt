@@ -17,7 +17,8 @@ pub use numbering::Numbering;
 use pairs::Pairs;
 use queue::Queue;
 
-// `Beside` is a clause here and no type: whoever calls has two machines, and would make the pair at each call to have it taken apart.
+// `Beside` stays a clause where two machines come from elsewhere. `Pairs`, which keeps it, is of this crate alone: a caller has the two machines
+// for more than this, and would write the pair down at each call where now it writes the two.
 
 // The least word that the state `s` of the first machine and `t` of the second answer differently is put to the start of `into`. Answers
 // its length, and none where there is no such word.
@@ -41,6 +42,7 @@ pub fn difference_from(
     pairs.explore(s * other.n + t, &mut queue);
     let (place, letter) = pairs.first_apart(&queue)?;
     let end = queue.spell(place, into, 0);
+    // A letter fits a byte: k is at most 12, by `Beside`; no `From` makes a number narrower.
     into[end] = letter as u8;
     Some(end + 1)
 }

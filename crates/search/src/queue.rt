@@ -71,6 +71,7 @@ impl Queue {
         }
         let place = self.count;
         self.seen[x] = true;
+        // They fit, by the clause; no `From` makes a number narrower.
         self.nodes[place] = x as u16;
         self.parent[place] = from as u16;
         self.letter[place] = a as u8;

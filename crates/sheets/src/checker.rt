@@ -34,6 +34,7 @@ impl<'s, 'm> Sheet<'s, 'm> {
     fn reaches_all(&self) -> bool
         ensures { result ≡ reaches_all (linked self.now.model) (said self.now.bytes.now) }
     {
+        // By places: the words of a sheet lie one behind the other, and nothing is on the heap to list them.
         let mut place = self.counts.reaching();
         for state in 0..self.model.n {
             let w = proofs::word_at(self.bytes, place);
@@ -58,6 +59,7 @@ impl<'s, 'm> Sheet<'s, 'm> {
         requires { (i < self.now.model.n) × (j < self.now.model.n) }
         ensures { result ≡ told_apart (linked self.now.model) (said self.now.bytes.now) i j }
     {
+        // By places, as above.
         let mut place = self.columns;
         for _ in 0..self.counts.c {
             let column = proofs::word_at(self.bytes, place);
@@ -108,7 +110,8 @@ impl<'a> Mapped<'a> {
             && usize::from(self.map[self.machine.next(s, a)]) == self.model.next(state, a)
     }
 
-    // At each letter, if the machine state has a model state. A state marked 255 is asked nothing itself.
+    // At each letter, if the machine state has a model state. A state marked 255, which the sheet's format has
+    // for none, is asked nothing itself.
     fn state_agrees(&self, s: usize) -> bool
         requires { s < self.now.machine.n }
         ensures { result ≡ state_agrees (linked self.now.machine) (mapped_by self.now) s }

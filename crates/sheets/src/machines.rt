@@ -57,7 +57,7 @@ fn set_pairs(area: &mut [u16], from: usize, pairs: &[u8], k: usize)
     requires k_in_bounds_2 { 2 * k ≤ length pairs.now }
     ensures { area.new ≡ put from (pair_words k pairs.now) area.old }
 {
-    // By index: what is written through `iter_mut` is not known afterwards.
+    // By index: what is written through `iter_mut` with an adapter is not known afterwards, and two bytes are read for each word.
     for i in 0..k {
         area[from + i] = machine::word(usize::from(pairs[2 * i + 1]), pairs[2 * i]);
     }
@@ -94,6 +94,7 @@ fn put_sheet(area: &mut [u8], machine: &Lent)
     ensures { area.new ≡ put 0 (machine_bytes machine.now.n machine.now.k machine.now.words.now) area.old }
 {
     records::put_mark(area, 0, b"MH");
+    // Both fit a byte, by the clause `sound`; no `From` makes a number narrower.
     area[2] = machine.n as u8;
     area[3] = machine.k as u8;
     records::put_rows(area, 4, machine.words, machine.k, machine.n);

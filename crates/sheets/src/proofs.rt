@@ -86,7 +86,7 @@ impl Due {
     }
 }
 
-// Whether each byte of the state map is below `m`, or 255 for none.
+// Whether each byte of the state map is below `m`, or 255, which the sheet's format has for none.
 fn map_bytes(map: &[u8], m: usize) -> bool
     ensures { result ≡ list_all (map_byte m) map.now }
 {

@@ -1,4 +1,5 @@
-// Numbers as text, put into a lent area at a place; area and place stay two parameters, as `areas::records` has them and says why.
+// Numbers as text, put into a lent area at a place, where a clause says what is put: of what `Display` writes no clause can say it. Area and
+// place stay two parameters, as `areas::records` has them and says why.
 #![tactic(auto)]
 
 ghost use Rattle.std.specs.Prelude.{◌+◌, ◌≤◌, length};
@@ -17,6 +18,7 @@ pub fn put_decimal(area: &mut [u8], at: usize, x: usize) -> usize
 {
     // No heap: the digits stand at the start of a fixed buffer.
     let mut digits = [0u8; 20];
+    // A usize fits; there is no `From` for it.
     let size = io::decimal(x as u64, &mut digits);
     store::put_letters(area, at, &digits[..size]);
     at + size

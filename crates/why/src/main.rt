@@ -31,7 +31,7 @@ fn digit(byte: u8) -> Option<usize>
     }
 }
 
-// The number that one digit or two spell.
+// The number that one digit or two spell. `parse` takes a sign and more digits too, and the program's answers may not change.
 fn number(text: &[u8]) -> Option<usize> {
     if text.len() == 1 {
         return digit(text[0]);
@@ -63,7 +63,7 @@ fn main(rt: HostRuntime) {
     }
     let s = state(&rt, 1);
     let t = state(&rt, 2);
-    // One byte past the longest sheet, so that a longer one is seen.
+    // One byte past the longest sheet, so that a longer one is seen. Nothing is on the heap: what was read or found is a part of an array.
     let mut sheet = [0u8; 1253];
     let size = io::read_full(0, &mut sheet);
     let mut area = [0u8; 47];
