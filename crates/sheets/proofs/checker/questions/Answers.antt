@@ -1,4 +1,4 @@
-use Rattle.std.proofs.Common.{◌≡◌, ℕ, List, refl, sym, ap, ◌∙◌}
+use Rattle.std.proofs.Common.{◌≡◌, ℕ, ◌-◌, List, length, take, drop, refl, sym, ap, ◌∙◌}
 use Rattle.std.specs.Prelude.{Bool}
 use Rattle.rules.specs.Answer.{gives}
 use Rattle.machine.specs.declared.lent.Lent.{Lent}
@@ -29,6 +29,13 @@ module _ (m : Lent) (s : Sheet) (same : (s.counts.n ≡ m.n) × (s.counts.k ≡ 
 
   apart : (t : Bool) → t ≡ all_apart (linked s.model) (said s.bytes.now) → all_apart (linked m) (said s.bytes.now) ≡ t
   apart t e = apart_alone _ _ _ ∙ sym e
+
+  -- 14 is asked of the sheet's last bytes, which are the map
+  held_map : (t : Bool) → t ≡ map_holds (linked m) (mapped m.n m.k s.model.n s.model.words.now (take (length s.bytes.now - (length s.bytes.now - m.n)) (drop (length s.bytes.now - m.n) s.bytes.now)))
+      → map_holds (linked m) (said s.bytes.now) ≡ t
+  held_map t e =
+      map_same held read (linked m)
+      ∙ sym (e ∙ ap (λ (map : List ℕ). map_holds (linked m) (mapped m.n m.k s.model.n s.model.words.now map)) (map_is held read).1)
 
 pub returns-then-not-reaches_all : goal.returns-then-not-reaches_all
 returns-then-not-reaches_all c =
@@ -64,19 +71,13 @@ returns-then-not-holds c =
     let m = c.args.machine.now in
     let s = c.args.sheet.now in
     let p = c.requires.same in
-    let there = (map_is (held m s p) (read m s p)).1 in
-    let holds = map_same (held m s p) (read m s p) (linked m)
-    ∙ sym (c.holds.ensures ∙ ap (λ (map : List ℕ). map_holds (linked m) (mapped m.n m.k s.model.n s.model.words.now map)) there) in
     sym (judge_same (held m s p) (read m s p) (linked m)
-    ∙ rw (reached m s p _ c.reaches_all.ensures, c.if-not-reaches_all.false, apart m s p _ c.all_apart.ensures, c.if-not-all_apart.false, holds, c.if-not-holds.true) refl)
+    ∙ rw (reached m s p _ c.reaches_all.ensures, c.if-not-reaches_all.false, apart m s p _ c.all_apart.ensures, c.if-not-all_apart.false, held_map m s p _ c.holds.ensures, c.if-not-holds.true) refl)
 
 pub returns : goal.returns
 returns c =
     let m = c.args.machine.now in
     let s = c.args.sheet.now in
     let p = c.requires.same in
-    let there = (map_is (held m s p) (read m s p)).1 in
-    let holds = map_same (held m s p) (read m s p) (linked m)
-    ∙ sym (c.holds.ensures ∙ ap (λ (map : List ℕ). map_holds (linked m) (mapped m.n m.k s.model.n s.model.words.now map)) there) in
     sym (judge_same (held m s p) (read m s p) (linked m)
-    ∙ rw (reached m s p _ c.reaches_all.ensures, c.if-not-reaches_all.false, apart m s p _ c.all_apart.ensures, c.if-not-all_apart.false, holds, c.if-not-holds.false) refl)
+    ∙ rw (reached m s p _ c.reaches_all.ensures, c.if-not-reaches_all.false, apart m s p _ c.all_apart.ensures, c.if-not-all_apart.false, held_map m s p _ c.holds.ensures, c.if-not-holds.false) refl)
