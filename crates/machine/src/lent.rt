@@ -1,5 +1,5 @@
-// A machine as it is lent: n·k words, state by state and letter by letter; a word is 256·next + output. `Lent::new` is the check at the
-// door; behind it each next state is there, and questions may be put.
+// A machine as it is lent: n·k words, state by state and letter by letter; a word is 256·next + output. `Lent::new` asks
+// `machine::check`, the check at the door; behind it each next state is there, and questions may be put.
 ghost use Rattle.std.specs.Prelude.{◌≡◌, true, ℕ, ◌+◌, ◌*◌, ◌/◌, ◌%◌, ◌<◌, ◌≤◌, length, get_or, IfOk};
 ghost use Rattle.machine.specs.Lent.{Steps};
 
@@ -22,24 +22,12 @@ impl<'a> Lent<'a> {
     ghost use Rattle.machine.specs.Answers.{answer};
     ghost use Rattle.machine.specs.Linked.{linked};
 
-    // Lent words: 3, then 1 or 5, then 4.
+    // The machine that the check at the door lets pass.
     pub fn new(words: &'a [u16], n: usize, k: usize) -> Result<Lent<'a>, Refusal>
         ensures refusal { answer (λ _. tt) result ≡ lent_check n k words.now }
         ensures machine { IfOk result (λ m. (m.words.now ≡ words.now) × (m.n ≡ n) × (m.k ≡ k) × Sound m.n m.k m.words.now) }
     {
-        if !crate::sized(n, k) {
-            return Err(Refusal::OutOfRange);
-        }
-        let size = n * k;
-        if words.len() < size {
-            return Err(Refusal::EndsEarly);
-        }
-        if size < words.len() {
-            return Err(Refusal::LeftOver);
-        }
-        if !crate::next_below(words, n) {
-            return Err(Refusal::NoSuchState);
-        }
+        crate::check(words, n, k)?;
         Ok(Lent { words, n, k })
     }
 

@@ -57,11 +57,15 @@ pub fn word(next: usize, output: u8) -> u16
     256 * (next as u16) + u16::from(output)
 }
 
-// Whether every word's next state is below `n`.
+// Whether every word's next state is below `n`. It goes to the end whatever it finds, so that many are compared at once.
 pub fn next_below(words: &[u16], n: usize) -> bool
     ensures { result ≡ next_below n words.now }
 {
-    words.iter().all(|word| next_of(*word) < n)
+    let mut below = true;
+    for word in words {
+        below &= next_of(*word) < n;
+    }
+    below
 }
 
 // Whether every letter of `w` is below `k`.
@@ -85,11 +89,24 @@ pub fn sized(n: usize, k: usize) -> bool
     within(1, 48, n) && within(1, 12, k)
 }
 
-// Lent words: 3, then 1 or 5, then 4.
+// Lent words: 3, then 1 or 5, then 4. It is the check at every door: `Lent::new` asks it. One copy of it serves them all.
+#[inline(never)]
 pub fn check(words: &[u16], n: usize, k: usize) -> Result<(), Refusal>
     ensures { answered result ≡ lent_check n k words.now }
 {
-    Lent::new(words, n, k)?;
+    if !sized(n, k) {
+        return Err(Refusal::OutOfRange);
+    }
+    let size = n * k;
+    if words.len() < size {
+        return Err(Refusal::EndsEarly);
+    }
+    if size < words.len() {
+        return Err(Refusal::LeftOver);
+    }
+    if !next_below(words, n) {
+        return Err(Refusal::NoSuchState);
+    }
     Ok(())
 }
 
