@@ -1,16 +1,28 @@
 -- The answers of the proof sheet's reader in the paper's terms, and that these fix them: two answers that meet one promise are equal.
-use Rattle.std.specs.Prelude.{◌≡◌, Result, List, ℕ, ◌+◌}
-use Rattle.std.proofs.Common.{sym, ap, ◌∙◌}
+use Rattle.std.specs.Prelude.{◌≡◌, Result, Ok, Err, List, ℕ, ◌+◌}
+use Rattle.std.proofs.Common.{Bor, sym, ap, ◌∙◌}
 use Rattle.rules.specs.Answer.{Answer}
 use Rattle.machine.specs.declared.refusal.Refusal.{Refusal}
-use Rattle.machine.specs.Answers.{answer, answered, answer_fixed, answered_fixed}
+use Rattle.machine.specs.Refusals.{number, number_inj}
+use Rattle.machine.specs.Answers.{answer, answer_fixed}
+use Rattle.sheets.specs.Rests.{rest_of}
+use Rattle.sheets.specs.WordSteps.{clash}
 use Rattle.sheets.specs.declared.proofs.Counts as code
 use Rattle.sheets.specs.Proofs.{Counts, aw_record}
 use Rattle.sheets.specs.ProofParts.{counts, aw_place}
 
 -- ---- a step
-pub stepped_fixed : (x y : Result ℕ Refusal) → answered x ≡ answered y → x ≡ y
-stepped_fixed x y e = answered_fixed x y e
+-- its answer as a value: the bytes that follow it, wherever they lie, or its refusal
+abbrev pub stepped : Result (Bor (List ℕ)) Refusal → Result (List ℕ) Refusal
+stepped (Ok bytes) = Ok bytes.now
+stepped (Err r) = Err r
+
+-- what a step promises of its answer fixes it
+pub stepped_fixed : (x y : Result (Bor (List ℕ)) Refusal) → rest_of x ≡ rest_of y → stepped x ≡ stepped y
+stepped_fixed (Ok x) (Ok y) e = let h : x.now ≡ y.now = cc in ap Ok h
+stepped_fixed (Ok x) (Err s) e = absurd (clash (sym e))
+stepped_fixed (Err r) (Ok y) e = absurd (clash e)
+stepped_fixed (Err r) (Err s) e = let h : number r ≡ number s = cc in ap Err (number_inj r s h)
 
 -- ---- reading a proof sheet
 -- the four numbers, as reading gives them

@@ -2,6 +2,7 @@
 ghost use Rattle.std.specs.Prelude.{◌≡◌, ◌+◌, ◌*◌, ◌≤◌, length, get_or, take, drop};
 ghost use Rattle.std.specs.List.{list_all};
 ghost use Rattle.machine.specs.Answers.{answered};
+ghost use Rattle.machine.specs.Lent.{letters_below};
 ghost use Rattle.sheets.specs.Proofs.{map_byte, word_record, word_records, read_proof, aw_record};
 ghost use Rattle.sheets.specs.Steps.{outcome};
 ghost use Rattle.sheets.specs.ProofParts.{in_range, letters, header, map_record, body, given, record_place, aw_place};
@@ -37,6 +38,18 @@ impl Counts {
     }
 }
 
+// Whether every letter of a record's word is below `k`. It goes to the end whatever it finds, so that many are compared at once: a word has
+// few letters here. `machine::letters_below`, which ends at the first that is not, is for words of any length.
+fn letters_below(w: &[u8], k: usize) -> bool
+    ensures { result ≡ letters_below k w.now }
+{
+    let mut below = true;
+    for a in w {
+        below &= usize::from(*a) < k;
+    }
+    below
+}
+
 // Records of words that are due: their mark, how few and how many letters a word may have, and how many letters there are.
 #[derive(Clone, Copy)]
 struct Due {
@@ -57,7 +70,7 @@ impl Due {
         if bytes.len() < size {
             return Err(Refusal::EndsEarly);
         }
-        if machine::letters_below(&bytes[..size], self.k) {
+        if letters_below(&bytes[..size], self.k) {
             Ok(&bytes[size..])
         } else {
             Err(Refusal::BadWord)
