@@ -1,6 +1,6 @@
 // What the desk programs say. Here it is the text of `learn`, the model's lines or a refusal's one line, put into a lent area; `send` has what
 // `proof` sends, `verdict` what `accept` says, and `why` what `why` does. Area and place stay two parameters, as `areas::records` says. The text
-// is put by functions with clauses, and not by `Display`, of whose text no clause can say anything: `report` promises each byte.
+// is put by functions with clauses, and not by `Display`, which writes to a stream: `report` promises each byte of its area.
 //
 // Each of the four reads the machine sheet for itself, in three lines: the words lie in its own array, since nothing is on the heap, and a
 // function of their own would have to be handed what is to be done with them.

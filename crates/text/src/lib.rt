@@ -1,5 +1,5 @@
-// Numbers as text, put into a lent area at a place, where a clause says what is put: of what `Display` writes no clause can say it. Area and
-// place stay two parameters, as `areas::records` has them and says why.
+// Numbers as text, put into a lent area at a place, where a clause says what each byte is: a `Display` writes to a stream, and what leaves by a
+// stream no clause sees. Area and place stay two parameters, as `areas::records` has them and says why.
 #![tactic(auto)]
 
 ghost use Rattle.std.specs.Prelude.{◌+◌, ◌≤◌, length};
