@@ -89,10 +89,11 @@ fn learner_cases(out: &mut Stream, m1: &[u16]) -> Result {
     learns(out, "Run L = 0", m1, 4, 2, 0, 47)?;
     learns(out, "Run L = 49", m1, 4, 2, 49, 47)?;
     learns(out, "Run R = 48", m1, 4, 2, 48, 48)?;
-    let mut small = [0u8; 34042];
-    learns_in(out, "Run table area 34042", m1, 4, 2, 48, 47, &mut small)?;
-    let mut enough = [0u8; 34043];
-    learns_in(out, "Run table area 34043", m1, 4, 2, 48, 47, &mut enough)?;
+    // One array lends both areas: two would lie on the stack at once.
+    let mut table = [0u8; 34043];
+    let small = &mut table[..34042];
+    learns_in(out, "Run table area 34042", m1, 4, 2, 48, 47, small)?;
+    learns_in(out, "Run table area 34043", m1, 4, 2, 48, 47, &mut table)?;
     Ok(())
 }
 
