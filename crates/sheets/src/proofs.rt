@@ -38,11 +38,14 @@ impl Counts {
     }
 }
 
-// Whether every letter of a record's word is below `k`. It goes to the end whatever it finds, so that many are compared at once: a word has
-// few letters here. `machine::letters_below`, which ends at the first that is not, is for words of any length.
+// Whether every letter of a record's word is below `k`. Where it has many, it goes to the end whatever it finds, so that they are compared many
+// at once; for the few of most words that costs more than it saves.
 fn letters_below(w: &[u8], k: usize) -> bool
     ensures { result ≡ letters_below k w.now }
 {
+    if w.len() < 16 {
+        return machine::letters_below(w, k);
+    }
     let mut below = true;
     for a in w {
         below &= usize::from(*a) < k;
